@@ -1,2 +1,5 @@
 pub mod Parts
 pub mod Moments
+pub mod ToldLaws
+pub mod MomentLaws
+pub mod CountLaws

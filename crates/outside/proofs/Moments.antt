@@ -1,27 +1,26 @@
 -- One call of a clock over a list.
-use Rattle.std.proofs.Common.{◌≡◌, ℕ, zero, suc, ◌+◌, ◌-◌, ◌^◌, ◌<◌, ◌≤◌, ◌⊎◌, inl, inr, min, List, [], ◌∷◌, ◌++◌, length, take, Some, refl, sym, ◌∙◌, ap, subst, arith, add-one, ⊎_elim, slice_index_or}
+use Rattle.std.proofs.Common.{◌≡◌, ℕ, zero, suc, ◌+◌, ◌-◌, ◌^◌, ◌<◌, ◌≤◌, min, List, [], ◌∷◌, ◌++◌, length, take, refl, sym, ◌∙◌, ap, arith, add-one, ⊎_elim, slice_index_or}
 use Rattle.std.proofs.Math.Path.{fun_ext}
-use Rattle.std.proofs.lemmas.List.{take_all, take_at, length_push}
+use Rattle.std.proofs.lemmas.List.{take_all, length_push, append-nil}
 use Rattle.std.proofs.lemmas.Bool.{cases_lt}
 use Rattle.nfs3_types.specs.declared.moment.Moment.{Moment}
 use Rattle.outside.specs.Clock.{MomentList, GaveMoments, most_moments, firsts, followed_by, moment_at, given_by, to_come_of}
-use Rattle.outside.specs.Count.{one_more}
 
 length-firsts : (f : ℕ → Moment) (n : ℕ) → length (firsts f n) ≡ n
 length-firsts f zero = refl
 length-firsts f (suc n) = length_push (firsts f n) (f n) ∙ ap (λ k. k + 1) (length-firsts f n) ∙ add-one n
 
 -- one more of the first moments, up to a limit
-firsts-one_more : (f : ℕ → Moment) (limit n next : ℕ) → n ≤ limit → next ≡ min (n + 1) limit → firsts f next ≡ take limit (firsts f n ++ f n ∷ [])
+firsts-one_more : (f : ℕ → Moment) (limit n next : ℕ) → n ≤ limit → next ≡ min (n + 1) limit → firsts f next ≡ firsts f n ++ take (limit - length (firsts f n)) (f n ∷ [])
 firsts-one_more f limit n next h e =
     ⊎_elim (λ (lt : n < limit).
     let e' : next ≡ suc n = omega arith in
-    let short : length (firsts f n ++ f n ∷ []) ≤ limit = rw length_push (rw length-firsts (omega arith)) in
-    ap (firsts f) e' ∙ sym (take_all limit (firsts f n ++ f n ∷ []) short))
+    let fits : 1 ≤ limit - length (firsts f n) = rw length-firsts (omega arith) in
+    ap (firsts f) e' ∙ ap (λ xs. firsts f n ++ xs) (sym (take_all (limit - length (firsts f n)) (f n ∷ []) fits)))
     (λ (ge : limit ≤ n).
     let e' : next ≡ n = omega arith in
-    let full : length (firsts f n) ≡ limit = length-firsts f n ∙ omega arith in
-    ap (firsts f) e' ∙ sym (take_at (firsts f n) (f n ∷ []) limit full))
+    let full : limit - length (firsts f n) ≡ 0 = rw length-firsts (omega arith) in
+    ap (firsts f) e' ∙ sym (ap (λ k. firsts f n ++ take k (f n ∷ [])) full ∙ append-nil (firsts f n)))
     (cases_lt n limit)
 
 later : (moments : List Moment) (n next limit : ℕ) → length moments ≤ limit → next ≡ min (n + 1) limit → (k : ℕ) → moment_at moments (n + k) ≡ followed_by (moment_at moments n ∷ []) (λ j. moment_at moments (next + j)) k

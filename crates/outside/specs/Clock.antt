@@ -8,15 +8,15 @@ followed_by [] others k = others k
 followed_by (first ∷ rest) others zero = first
 followed_by (first ∷ rest) others (suc k) = followed_by rest others k
 
--- how long a list of moments grows
+-- how long a list of moments grows, as a count stands still at its end
 unfoldable pub most_moments : ℕ
 most_moments = 2 ^ 64 - 1
 
--- The moments given grow by these. As a count stands still at its end, so does this list.
+-- the moments given grow by these, up to that length
 abbrev pub GainsMoments : Option (List Moment) → Option (List Moment) → List Moment → Type 0
 GainsMoments None now moments = ⊤
 GainsMoments (Some before) None moments = ⊥
-GainsMoments (Some before) (Some now) moments = now ≡ take most_moments (before ++ moments)
+GainsMoments (Some before) (Some now) moments = now ≡ before ++ take (most_moments - length before) moments
 
 -- the moments to come began with these
 abbrev pub LosesMoments : Option (ℕ → Moment) → Option (ℕ → Moment) → List Moment → Type 0

@@ -4,8 +4,9 @@ use Rattle.std.specs.Prelude.{◌≡◌, ℕ, zero, suc, ◌+◌, ◌-◌, ◌^�
 use Rattle.outside.specs.declared.weather.Fate.{Fate}
 use Rattle.outside.specs.declared.weather.Fate.TheVariants.{Deliver, Lose, Hold, Repeat}
 use Rattle.outside.specs.declared.weather.MessageKind.{MessageKind}
-use Rattle.outside.specs.declared.weather.MessageKind.TheVariants.{Ask, Promise, Put, Ack, Nack}
+use Rattle.outside.specs.declared.weather.MessageKind.TheVariants.{Put, Ack}
 use Rattle.outside.specs.declared.weather.MessageName.{MessageName}
+use Rattle.outside.specs.declared.weather.TheConstants.{MOST_STORES, MOST_REPLICAS}
 use Rattle.outside.specs.Count.{one_more, Rose}
 
 -- bad fates keep a message from its receiver
@@ -24,7 +25,7 @@ concerns message store replica = (message.store == store) && (message.replica ==
 pub record Counts (before now : ℕ → ℕ → ℕ) (message : MessageName) (fate : Fate) : Type 0 where
   pub rose : IsTrue (is_bad fate) → Rose (before message.store message.replica) (now message.store message.replica)
   pub never_falls : (store replica : ℕ) → before store replica ≤ now store replica
-  pub exact : (store replica : ℕ) → store < 16 → replica < 5 → now store replica ≡ (if is_bad fate && concerns message store replica then one_more (before store replica) else before store replica)
+  pub exact : (store replica : ℕ) → store < MOST_STORES → replica < MOST_REPLICAS → now store replica ≡ (if is_bad fate && concerns message store replica then one_more (before store replica) else before store replica)
 
 -- the sum of f at the numbers below n
 abbrev pub sum_below : ℕ → (ℕ → ℕ) → ℕ
@@ -33,8 +34,8 @@ sum_below (suc n) f = sum_below n f + f n
 
 -- The weather's count of bad fates: the sum of those of all replicas below the limits. It stands still at
 -- its end, as each of them does.
-abbrev pub bad_fates : (ℕ → ℕ → ℕ) → ℕ
-bad_fates bad = min (sum_below 16 (λ store. sum_below 5 (bad store))) (2 ^ 64 - 1)
+unfoldable pub bad_fates : (ℕ → ℕ → ℕ) → ℕ
+bad_fates bad = min (sum_below MOST_STORES (λ store. sum_below MOST_REPLICAS (bad store))) (2 ^ 64 - 1)
 
 -- The fate was the first of those to come, where they are told. After the last one all are Deliver.
 abbrev pub Draws : Option (List Fate) → Option (List Fate) → Fate → Type 0

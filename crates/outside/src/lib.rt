@@ -9,6 +9,7 @@
 
 mod clock;
 mod failed;
+mod laws;
 mod list_clock;
 mod mem_sink;
 mod mem_source;
@@ -19,10 +20,11 @@ mod weather;
 
 pub use clock::Clock;
 pub use failed::Failed;
+pub use laws::{bad_fates_add_up, bytes_compose, moments_compose, puts_compose};
 pub use list_clock::ListClock;
 pub use mem_sink::MemSink;
 pub use mem_source::MemSource;
 pub use nfs3_types::{Moment, NoMemory, Text};
 pub use sink::Sink;
 pub use source::Source;
-pub use weather::{Fate, MessageKind, MessageName, Weather};
+pub use weather::{Fate, MOST_REPLICAS, MOST_STORES, MessageKind, MessageName, Weather};

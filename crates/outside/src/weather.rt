@@ -5,6 +5,12 @@ ghost use Rattle.outside.specs.declared.weather.Fate.{Fate};
 ghost use Rattle.outside.specs.declared.weather.MessageKind.{MessageKind};
 ghost use Rattle.outside.specs.Weather.{Counts, Draws};
 
+/// Bad fates are counted apart for each store numbered below this.
+pub const MOST_STORES: u32 = 16;
+
+/// Bad fates are counted apart for each replica numbered below this.
+pub const MOST_REPLICAS: u32 = 5;
+
 /// The kinds of message of the Paxos protocol.
 #[derive(Clone, Copy, Debug, PartialEq, Eq)]
 pub enum MessageKind {

@@ -1,4 +1,3 @@
-use Rattle.std.proofs.Common.{rules}
 use Rattle.std.proofs.lemmas.List.{drop-drop}
 use Rattle.outside.proofs.plan.Plan.skip.Goals as goal
 
