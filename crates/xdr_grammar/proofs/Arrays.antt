@@ -1,5 +1,5 @@
 -- The laws of arrays.
-use Rattle.std.proofs.Common.{◌≡◌, ℕ, zero, suc, ◌+◌, ◌<◌, List, [], ◌∷◌, ◌++◌, length, Result, Ok, Err, refl, sym, ap, subst, ◌∙◌, inl, inr, append_assoc, length-append, arith}
+use Rattle.std.proofs.Common.{◌≡◌, ℕ, zero, suc, List, [], ◌∷◌, ◌++◌, length, Result, Ok, Err, refl, ap, subst, ◌∙◌, inl, inr, append_assoc, length-append, arith}
 use Rattle.std.specs.Prelude.{nat_le}
 use Rattle.std.specs.List.{All, flat_map, sum_by}
 use Rattle.std.proofs.lemmas.List.Concat.{flat_map-cons}
@@ -9,7 +9,7 @@ use Rattle.xdr_grammar.specs.declared.fault.XdrFault.{XdrFault}
 use Rattle.xdr_grammar.specs.declared.fault.XdrFault.TheVariants.{TooLong}
 use Rattle.xdr_grammar.specs.Grammar.{Grammar, ◌at◌, ◌>>=◌, done, and_then}
 use Rattle.xdr_grammar.specs.Items.{word, tested}
-use Rattle.xdr_grammar.specs.Arrays.{SpellsItems, BreaksItems, FitsItems, read_items, items, array}
+use Rattle.xdr_grammar.specs.Arrays.{SpellsItems, BreaksItems, read_items, items, array}
 use Rattle.xdr_grammar.specs.Arrays.SpellsItems.{ended, item}
 use Rattle.xdr_grammar.specs.Arrays.BreaksItems.{in_item, behind}
 use Rattle.xdr_grammar.specs.Laws.{Laws, Found, AreBytes}

@@ -1,9 +1,9 @@
 -- The laws of grammars among which an earlier item chooses, and of optional data.
-use Rattle.std.proofs.Common.{◌≡◌, ℕ, Bool, true, false, List, [], ◌++◌, length, Option, Some, None, is_some, Result, Ok, Err, refl, sym, ap, subst, ◌∙◌, inl, inr, arith}
+use Rattle.std.proofs.Common.{◌≡◌, ℕ, Bool, true, false, List, ◌++◌, Option, Some, None, is_some, Result, Ok, Err, refl, sym, ap, ◌∙◌, inl, inr}
 use Rattle.xdr_grammar.specs.declared.fault.XdrFault.{XdrFault}
-use Rattle.xdr_grammar.specs.Grammar.{Grammar, ◌at◌, ◌>>=◌, done, and_then}
+use Rattle.xdr_grammar.specs.Grammar.{Grammar, ◌at◌, done, and_then}
 use Rattle.xdr_grammar.specs.Items.{truth}
-use Rattle.xdr_grammar.specs.Choices.{either, in_case, SpellsCase, FitsCase, case_spelling, case_size, optional}
+use Rattle.xdr_grammar.specs.Choices.{either, in_case, SpellsCase, optional}
 use Rattle.xdr_grammar.specs.Laws.{Laws, Found, GivesBack, AllSpelled}
 use Rattle.xdr_grammar.proofs.Steps.{and_then-ok, and_then-err}
 use Rattle.xdr_grammar.proofs.Composed.{both-laws, done-laws}

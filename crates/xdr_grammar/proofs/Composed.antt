@@ -1,9 +1,8 @@
 -- The laws of one grammar behind another.
-use Rattle.std.proofs.Common.{◌≡◌, ℕ, ◌+◌, Bool, true, false, List, [], ◌++◌, length, Result, Ok, Err, refl, sym, ap, subst, ◌∙◌, inl, inr, append_assoc, length-append, arith}
-use Rattle.std.proofs.lemmas.List.{append-nil}
+use Rattle.std.proofs.Common.{◌≡◌, ℕ, List, [], ◌++◌, length, Result, Ok, Err, refl, sym, ap, subst, ◌∙◌, inl, inr, append_assoc, length-append, arith}
 use Rattle.xdr_grammar.specs.declared.fault.XdrFault.{XdrFault}
-use Rattle.xdr_grammar.specs.Grammar.{Grammar, Part, ◌>>=◌, done, and_then, SpellsBoth, BreaksEither, FitsBoth, SpellsNothing}
-use Rattle.xdr_grammar.specs.Grammar.BreaksEither.{in_first, in_second}
+use Rattle.xdr_grammar.specs.Grammar.{Grammar, Part, ◌>>=◌, done, and_then, SpellsBoth, BreaksBoth}
+use Rattle.xdr_grammar.specs.Grammar.BreaksBoth.{in_first, in_second}
 use Rattle.xdr_grammar.specs.Laws.{Laws, Found, Keeps, AreBytes}
 use Rattle.xdr_grammar.proofs.Steps.{and_then-ok, and_then-err, ok_is, AreBytes-front, AreBytes-back}
 
@@ -38,7 +37,7 @@ both-again part next first second r front rest s =
     ap (λ x. and_then x (behind next)) one ∙ (second (part.get r)).again r s.back rest s.second
 
 both-breaks : {R A : Type 0} (part : Part R A) (next : A → Grammar R) → Laws part.grammar → ((a : A) → Laws (next a))
-    → (bytes : List ℕ) (fault : XdrFault) → (part >>= next).read bytes ≡ Err fault → BreaksEither part next bytes fault
+    → (bytes : List ℕ) (fault : XdrFault) → (part >>= next).read bytes ≡ Err fault → BreaksBoth part next bytes fault
 both-breaks part next first second bytes fault e = elim (and_then-err (part.grammar.read bytes) (behind next) fault e) [
   | inl here ↦ in_first (first.breaks bytes fault here)
   | inr x ↦
@@ -47,7 +46,7 @@ both-breaks part next first second bytes fault e = elim (and_then-err (part.gram
 ]
 
 both-broken : {R A : Type 0} (part : Part R A) (next : A → Grammar R) → Laws part.grammar → ((a : A) → Laws (next a))
-    → (bytes : List ℕ) (fault : XdrFault) → BreaksEither part next bytes fault → (part >>= next).read bytes ≡ Err fault
+    → (bytes : List ℕ) (fault : XdrFault) → BreaksBoth part next bytes fault → (part >>= next).read bytes ≡ Err fault
 both-broken part next first second bytes fault (in_first b) = ap (λ x. and_then x (behind next)) (first.broken bytes fault b)
 both-broken part next first second bytes fault (in_second a front back parts s b) =
     ap (λ x. and_then x (behind next)) (ap part.grammar.read parts ∙ first.again a front back s) ∙ (second a).broken back fault b

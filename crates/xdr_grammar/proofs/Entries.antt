@@ -1,14 +1,13 @@
 -- The laws of lists that a false boolean ends.
-use Rattle.std.proofs.Common.{◌≡◌, ℕ, zero, suc, ◌+◌, ◌<◌, ◌≤◌, Bool, true, false, List, [], ◌∷◌, ◌++◌, length, Result, Ok, Err, refl, sym, ap, subst, ◌∙◌, inl, inr, append_assoc, zero-add, lit<, length-append, arith}
+use Rattle.std.proofs.Common.{◌≡◌, ℕ, zero, suc, ◌+◌, ◌<◌, Bool, true, false, List, [], ◌∷◌, ◌++◌, length, Result, Ok, Err, refl, sym, ap, subst, ◌∙◌, inl, inr, append_assoc, zero-add, lit<, length-append, arith}
 use Rattle.std.specs.Prelude.{if◌then◌else◌}
-use Rattle.std.specs.List.{All, flat_map, sum_by}
+use Rattle.std.specs.List.{All, flat_map}
 use Rattle.std.proofs.lemmas.List.Concat.{flat_map-cons}
 use Rattle.std.proofs.lemmas.List.Elements.{All-nil, All-cons}
 use Rattle.std.proofs.lemmas.List.Sums.{sum_by-cons}
 use Rattle.xdr_grammar.specs.declared.fault.XdrFault.{XdrFault}
-use Rattle.xdr_grammar.specs.declared.fault.XdrFault.TheVariants.{Short}
 use Rattle.xdr_grammar.specs.Grammar.{Grammar, and_then}
-use Rattle.xdr_grammar.specs.Items.{word, tested, number_of, truth}
+use Rattle.xdr_grammar.specs.Items.{word, truth}
 use Rattle.xdr_grammar.specs.Entries.{SpellsEntries, BreaksEntries, entry_spelling, entries_spelling, entries_size, read_entries, entries}
 use Rattle.xdr_grammar.specs.Entries.SpellsEntries.{ended, entry}
 use Rattle.xdr_grammar.specs.Entries.BreaksEntries.{in_mark, in_entry, behind}
@@ -17,12 +16,12 @@ use Rattle.xdr_grammar.proofs.Steps.{and_then-ok, and_then-err, ok_is, AreBytes-
 use Rattle.xdr_grammar.proofs.Items.{truth-laws}
 
 -- each boolean is four bytes
-mark_long : (b : Bool) → truth.size b ≡ 4
+pub truth-size : (b : Bool) → truth.size b ≡ 4
 unfolding truth word
-mark_long b = refl
+truth-size b = refl
 
 pub mark-long : (b : Bool) (mark : List ℕ) → truth.Spells b mark → length mark ≡ 4
-mark-long b mark s = truth-laws.sized b mark s ∙ mark_long b
+mark-long b mark s = truth-laws.sized b mark s ∙ truth-size b
 
 -- what stands behind an entry
 abbrev pub others_of : {A : Type 0} → A → List A × List ℕ → Result (List A × List ℕ) XdrFault

@@ -1,12 +1,11 @@
 -- The laws of the examples.
-use Rattle.std.proofs.Common.{◌≡◌, ℕ, zero, suc, Bool, true, false, List, refl, sym, arith}
+use Rattle.std.proofs.Common.{◌≡◌, ℕ, zero, suc, true, false, List, refl, sym, arith}
 use Rattle.std.specs.Prelude.{◌==◌, if◌then◌else◌}
 use Rattle.std.proofs.lemmas.Bool.{eqb-true}
-use Rattle.xdr_grammar.specs.Grammar.{◌>>=◌}
 use Rattle.xdr_grammar.specs.Items.{pick}
 use Rattle.xdr_grammar.specs.Laws.{Laws}
-use Rattle.xdr_grammar.specs.Examples.{time, SetTime, tag_of, set_time, optional_handle}
-use Rattle.xdr_grammar.specs.Examples.SetTime.{DontChange, ServerTime, ClientTime}
+use Rattle.xdr_grammar.specs.Examples.{time, tag_of, set_time, optional_handle}
+use Rattle.xdr_grammar.specs.Examples.SetTime.{DontChange, ServerTime}
 use Rattle.xdr_grammar.proofs.Rules.{grammar_laws, picked}
 
 pub time-laws : Laws time

@@ -1,14 +1,14 @@
 -- The laws of the items.
-use Rattle.std.proofs.Common.{◌≡◌, ℕ, zero, suc, ◌+◌, ◌-◌, ◌%◌, ◌^◌, ◌<◌, ◌≤◌, Bool, true, false, ◌&&◌, List, [], ◌++◌, length, take, drop, replicate, Result, Ok, Err, refl, sym, ap, subst, ◌∙◌, inl, inr, append_assoc, length-append, arith}
-use Rattle.std.specs.Prelude.{if◌then◌else◌, ◌==◌, nat_lt, nat_le, IsTrue}
+use Rattle.std.proofs.Common.{◌≡◌, ℕ, zero, suc, ◌+◌, ◌≤◌, Bool, true, false, ◌&&◌, List, [], ◌++◌, length, take, drop, replicate, Result, Ok, Err, refl, sym, ap, subst, ◌∙◌, inl, inr, append_assoc, length-append, arith}
+use Rattle.std.specs.Prelude.{if◌then◌else◌, ◌==◌, nat_lt, nat_le}
 use Rattle.std.proofs.lemmas.Bool.{ltb-true, ltb-false, lt-ltb, le-ltb, leb-true}
 use Rattle.std.proofs.lemmas.List.{append-nil, take_at, drop_at, take-append-drop, drop-drop, length-take, length-drop, length-replicate}
 use Rattle.byteorder.specs.Endian.{big_number, big_bytes}
 use Rattle.byteorder.specs.Numbers.{big_from-lt, big_number-reads_back, length-bytes_high_first}
 use Rattle.xdr_grammar.specs.declared.fault.XdrFault.{XdrFault}
 use Rattle.xdr_grammar.specs.declared.fault.XdrFault.TheVariants.{Short, TooLong, BadBool, BadEnum}
-use Rattle.xdr_grammar.specs.Grammar.{Grammar, ◌at◌, ◌>>=◌, done, and_then, SpellsNothing}
-use Rattle.xdr_grammar.specs.Items.{IsShort, SpellsNumber, number, word, hyper, SpellsTested, BreaksTested, FitsTested, tested, pick, number_of, truth, padding, SpellsFixed, fixed, opaque}
+use Rattle.xdr_grammar.specs.Grammar.{Grammar, ◌at◌, ◌>>=◌, done, and_then}
+use Rattle.xdr_grammar.specs.Items.{IsShort, SpellsNumber, number, word, hyper, SpellsTested, BreaksTested, tested, pick, bool_number, truth, padding, SpellsFixed, fixed, opaque}
 use Rattle.xdr_grammar.specs.Items.BreaksTested.{in_item, in_test}
 use Rattle.xdr_grammar.specs.Laws.{Laws, Found}
 use Rattle.xdr_grammar.proofs.Steps.{and_then-ok, and_then-err, refused_not, refused, passed, passed_not}
@@ -114,18 +114,18 @@ pub pick-laws : (low high : ℕ) → Laws (pick low high)
 unfolding pick
 pick-laws low high = tested-laws word (λ n. nat_le low n && nat_le n high) BadEnum word-laws
 
-number_of-test : (n : ℕ) → nat_le n 1 ≡ true → number_of (n == 1) ≡ n
-number_of-test zero h = refl
-number_of-test (suc zero) h = refl
-number_of-test (suc (suc n)) h = absurd (omega (arith, leb-true (suc (suc n)) 1 h))
+bool_number-test : (n : ℕ) → nat_le n 1 ≡ true → bool_number (n == 1) ≡ n
+bool_number-test zero h = refl
+bool_number-test (suc zero) h = refl
+bool_number-test (suc (suc n)) h = absurd (omega (arith, leb-true (suc (suc n)) 1 h))
 
 pub truth-laws : Laws truth
 unfolding truth
 truth-laws =
-    both-laws (tested word (λ n. nat_le n 1) BadBool at number_of) (λ n. done (n == 1))
+    both-laws (tested word (λ n. nat_le n 1) BadBool at bool_number) (λ n. done (n == 1))
     (tested-laws word (λ n. nat_le n 1) BadBool word-laws)
     (λ n. done-laws (n == 1))
-    (λ n front s r back t. ap number_of t.is ∙ number_of-test n s.passes)
+    (λ n front s r back t. ap bool_number t.is ∙ bool_number-test n s.passes)
 
 -- ---- bytes
 

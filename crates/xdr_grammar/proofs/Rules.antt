@@ -1,11 +1,13 @@
 -- How the laws of a structure are found: `search grammar_laws`, under `unfolding` of the structure.
+-- Add the laws of the structures within it, and for each tag what it was chosen by (`Examples`). A
+-- long structure wants a depth: `search (grammar_laws, time-laws) depth 40`.
 use Rattle.std.proofs.Common.{◌≡◌, ℕ, ◌≤◌, Bool, true, false, ◌&&◌, List, Option, refl}
 use Rattle.std.specs.Prelude.{nat_le}
 use Rattle.std.proofs.lemmas.Bool.{leb-true}
 use Rattle.xdr_grammar.specs.Grammar.{Grammar, Part, ◌>>=◌, done}
 use Rattle.xdr_grammar.specs.Items.{pick}
-use Rattle.xdr_grammar.specs.Choices.{either, in_case, optional}
-use Rattle.xdr_grammar.specs.Laws.{Laws, Keeps, AllSpelled}
+use Rattle.xdr_grammar.specs.Choices.{either, in_case}
+use Rattle.xdr_grammar.specs.Laws.{AllSpelled}
 use Rattle.xdr_grammar.proofs.Composed.{both-laws, done-laws}
 use Rattle.xdr_grammar.proofs.Items.{word-laws, hyper-laws, tested-laws, pick-laws, truth-laws, fixed-laws, opaque-laws}
 use Rattle.xdr_grammar.proofs.Choices.{either-laws, in_case-laws, optional-laws}

@@ -1,6 +1,6 @@
 -- What is the whole text, and what follows from the laws of any grammar.
-use Rattle.std.proofs.Common.{◌≡◌, ℕ, zero, suc, ◌+◌, ◌<◌, Bool, true, false, List, [], ◌∷◌, ◌++◌, length, Result, Ok, Err, refl, sym, ap, subst, ◌∙◌, inl, inr, append_assoc, length-append, arith}
-use Rattle.std.specs.Prelude.{◌==◌, if◌then◌else◌}
+use Rattle.std.proofs.Common.{◌≡◌, ℕ, zero, suc, ◌<◌, false, List, [], ◌++◌, length, Result, Ok, Err, refl, sym, ap, subst, ◌∙◌, inl, inr, length-append, arith}
+use Rattle.std.specs.Prelude.{◌==◌}
 use Rattle.std.proofs.lemmas.Bool.{eqb-true, ne_eqb}
 use Rattle.std.proofs.lemmas.List.{append-nil, nil_from_length, append_cancel_right}
 use Rattle.xdr_grammar.specs.declared.fault.XdrFault.{XdrFault}
@@ -8,7 +8,7 @@ use Rattle.xdr_grammar.specs.declared.fault.XdrFault.TheVariants.{Trailing}
 use Rattle.xdr_grammar.specs.Grammar.{Grammar, and_then}
 use Rattle.xdr_grammar.specs.Whole.{ended, whole, BreaksWhole, WholeLaws}
 use Rattle.xdr_grammar.specs.Whole.BreaksWhole.{in_value, behind}
-use Rattle.xdr_grammar.specs.Laws.{Laws, IsOneSpelling, IsUnambiguous, IsReadBack}
+use Rattle.xdr_grammar.specs.Laws.{Laws, IsUnambiguous, IsReadBack, TakesSize}
 use Rattle.xdr_grammar.proofs.Steps.{and_then-ok, and_then-err, ok_is, passed, passed_not}
 
 -- what ends a whole text
@@ -72,3 +72,8 @@ is_unambiguous {A = A} g laws v w front rest front' rest' s s' e =
 
 pub is_read_back : {A : Type 0} (g : Grammar A) → Laws g → IsReadBack g
 is_read_back g laws v rest h = laws.again v (g.spelling v) rest (laws.written v h)
+
+pub takes_size : {A : Type 0} (g : Grammar A) → Laws g → TakesSize g
+takes_size g laws bytes v rest e =
+    let f = laws.found bytes v rest e in
+    omega (arith, ap length f.parts, length-append f.front rest, laws.sized v f.front f.spelled)

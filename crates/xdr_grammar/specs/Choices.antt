@@ -1,6 +1,5 @@
 -- Grammars among which an earlier item chooses, and optional data (RFC 4506, section 4.19).
-use Rattle.std.specs.Prelude.{◌≡◌, ℕ, Bool, true, false, List, [], Result, Ok, Option, Some, None, is_some}
-use Rattle.xdr_grammar.specs.declared.fault.XdrFault.{XdrFault}
+use Rattle.std.specs.Prelude.{◌≡◌, ℕ, Bool, true, false, List, [], Ok, Option, Some, None, is_some}
 use Rattle.xdr_grammar.specs.Grammar.{Grammar, ◌at◌, ◌>>=◌, done, and_then}
 use Rattle.xdr_grammar.specs.Items.{truth}
 

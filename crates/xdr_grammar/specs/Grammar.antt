@@ -38,9 +38,9 @@ pub record SpellsBoth {R A : Type 0} (part : Part R A) (next : A → Grammar R) 
   pub second : (next (part.get r)).Spells r back
 
 -- the part has the fault, or the part is whole and what follows it has the fault
-pub data BreaksEither {R A : Type 0} (part : Part R A) (next : A → Grammar R) (bytes : List ℕ) (fault : XdrFault) : Type 0 where
-  in_first : part.grammar.Breaks bytes fault → BreaksEither part next bytes fault
-  in_second : (a : A) (front back : List ℕ) → bytes ≡ front ++ back → part.grammar.Spells a front → (next a).Breaks back fault → BreaksEither part next bytes fault
+pub data BreaksBoth {R A : Type 0} (part : Part R A) (next : A → Grammar R) (bytes : List ℕ) (fault : XdrFault) : Type 0 where
+  in_first : part.grammar.Breaks bytes fault → BreaksBoth part next bytes fault
+  in_second : (a : A) (front back : List ℕ) → bytes ≡ front ++ back → part.grammar.Spells a front → (next a).Breaks back fault → BreaksBoth part next bytes fault
 
 pub record FitsBoth {R A : Type 0} (part : Part R A) (next : A → Grammar R) (r : R) : Type 0 where
   pub first : part.grammar.Fits (part.get r)
@@ -57,7 +57,7 @@ abbrev pub ◌>>=◌ : {R A : Type 0} → Part R A → (A → Grammar R) → Gra
 part >>= next = record {
   read = λ bytes. and_then (part.grammar.read bytes) (λ x. (next x.0).read x.1);
   Spells = SpellsBoth part next;
-  Breaks = BreaksEither part next;
+  Breaks = BreaksBoth part next;
   Fits = FitsBoth part next;
   spelling = λ r. part.grammar.spelling (part.get r) ++ (next (part.get r)).spelling r;
   size = λ r. part.grammar.size (part.get r) + (next (part.get r)).size r;

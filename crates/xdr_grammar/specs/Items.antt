@@ -60,14 +60,14 @@ tested g test refusal = record {
 unfoldable pub pick : ℕ → ℕ → Grammar ℕ
 pick low high = tested word (λ n. nat_le low n && nat_le n high) BadEnum
 
-abbrev pub number_of : Bool → ℕ
-number_of false = 0
-number_of true = 1
+abbrev pub bool_number : Bool → ℕ
+bool_number false = 0
+bool_number true = 1
 
 -- a boolean (4.4): the word 0 or 1
 unfoldable pub truth : Grammar Bool
 truth = do
-  n ← tested word (λ n. nat_le n 1) BadBool at number_of
+  n ← tested word (λ n. nat_le n 1) BadBool at bool_number
   done (n == 1)
 
 -- ---- bytes

@@ -1,5 +1,5 @@
 -- What holds of a grammar. Each item has these laws, and each way of composing grammars keeps them.
-use Rattle.std.specs.Prelude.{◌≡◌, ℕ, ◌+◌, ◌<◌, Bool, List, ◌++◌, length, slice_index, Result, Ok, Err, Option, Some}
+use Rattle.std.specs.Prelude.{◌≡◌, ℕ, ◌+◌, ◌<◌, List, ◌++◌, length, slice_index, Ok, Err, Option, Some}
 use Rattle.xdr_grammar.specs.declared.fault.XdrFault.{XdrFault}
 use Rattle.xdr_grammar.specs.Grammar.{Grammar, Part}
 
@@ -41,6 +41,10 @@ IsUnambiguous {A = A} g = (v w : A) (front rest front' rest' : List ℕ) → g.S
 -- what is written is read back, with what follows it
 abbrev pub IsReadBack : {A : Type 0} → Grammar A → Type 0
 IsReadBack {A = A} g = (v : A) (rest : List ℕ) → g.Fits v → g.read (g.spelling v ++ rest) ≡ Ok (v, rest)
+
+-- what is read takes its size
+abbrev pub TakesSize : {A : Type 0} → Grammar A → Type 0
+TakesSize {A = A} g = (bytes : List ℕ) (v : A) (rest : List ℕ) → g.read bytes ≡ Ok (v, rest) → length bytes ≡ g.size v + length rest
 
 -- ---- what composing asks
 

@@ -10,7 +10,7 @@ ghost use Rattle.xdr_grammar.specs.Choices.{either, in_case, optional};
 ghost use Rattle.xdr_grammar.specs.Entries.{entries};
 ghost use Rattle.xdr_grammar.specs.Arrays.{items, array};
 ghost use Rattle.xdr_grammar.specs.Whole.{WholeLaws};
-ghost use Rattle.xdr_grammar.specs.Laws.{Laws, Keeps, GivesBack, IsUnambiguous, IsReadBack};
+ghost use Rattle.xdr_grammar.specs.Laws.{Laws, Keeps, GivesBack, IsUnambiguous, IsReadBack, TakesSize};
 ghost use Rattle.xdr_grammar.specs.Examples.{time, set_time, optional_handle};
 
 /// A grammar of values of type `V` that has the laws: what is claimed for a `G: Lawful<V>` is claimed
@@ -107,6 +107,11 @@ pub fn no_spelling_begins_another<V, G: Lawful<V>>()
 /// What is written is read back, with what follows it.
 pub fn what_is_written_is_read_back<V, G: Lawful<V>>()
     ensures { IsReadBack G.grammar }
+{}
+
+/// What is read takes its size.
+pub fn what_is_read_takes_its_size<V, G: Lawful<V>>()
+    ensures { TakesSize G.grammar }
 {}
 
 /// A text that is read to its end.

@@ -11,3 +11,5 @@ mod fault;
 pub use fault::XdrFault;
 
 pub mod laws;
+#[cfg(test)]
+mod tests;
