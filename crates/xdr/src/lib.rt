@@ -1,0 +1,13 @@
+//! XDR (RFC 4506) over bytes: a [`Reader`] of items, and one call to write each item.
+//!
+//! It promises that each reading call gives exactly what the grammar's item reads, with the first
+//! fault and with no memory taken, that a refusal leaves the reader unchanged, and that each writing
+//! call adds the item's one spelling at the end and never fails where room was reserved.
+//! It stands on `xdr_grammar` for what is spelled how, and on `cursor` for the place in a text.
+#![tactic(auto)]
+
+mod put;
+mod reader;
+
+pub use put::{put_hyper, put_word};
+pub use reader::Reader;

@@ -1,0 +1,10 @@
+pub mod Steps
+pub mod Composed
+pub mod Items
+pub mod Choices
+pub mod Whole
+pub mod Entries
+pub mod Arrays
+pub mod Rules
+pub mod Examples
+pub mod Loops

@@ -1,0 +1,9 @@
+pub mod Grammar
+pub mod Items
+pub mod Choices
+pub mod Entries
+pub mod Arrays
+pub mod Whole
+pub mod Laws
+pub mod Reading
+pub mod Examples
