@@ -1,0 +1,45 @@
+//! The laws of record marking. Their functions do nothing: what is proved is that the clause holds.
+//! Proofs of other crates cite the same laws as lemmas of `proofs/`.
+
+ghost use Rattle.std.specs.Prelude.{◌≡◌, ℕ, ◌≤◌, ◌++◌, All, List, length, Option, Some, None};
+ghost use Rattle.std.specs.List.{flat_map};
+ghost use Rattle.rpc_records.specs.Reading.{first_record, marked};
+ghost use Rattle.rpc_records.specs.Reading.Reading.{Whole, Partial, Refused};
+ghost use Rattle.rpc_records.specs.Marking.{IsShort, marking, none_whole, with_records};
+ghost use Rattle.rpc_records.specs.declared.fault.RecordFault.{RecordFault};
+
+/// What is written as one record is read as one, whatever follows it.
+pub fn a_marked_record_is_read()
+    ensures { (content more : List ℕ) → IsShort content → first_record (marked content ++ more) ≡ Whole content more }
+{}
+
+/// Records that are written one after another are those of the text, and then come those of what
+/// follows.
+pub fn marked_records_are_read()
+    ensures { (records : List (List ℕ)) (tail : List ℕ) → All IsShort records
+        → marking (flat_map marked records ++ tail) ≡ with_records records (marking tail) }
+{}
+
+/// A text without a whole record and without a fault is all rest.
+pub fn a_tail_is_the_rest()
+    ensures { (tail : List ℕ) → first_record tail ≡ Partial → marking tail ≡ none_whole tail None }
+{}
+
+/// A longer text has the records of the shorter one first, and then those of its rest as it goes on.
+pub fn a_longer_text_keeps_its_records()
+    ensures { (text more : List ℕ) → (marking text).refusal ≡ None
+        → marking (text ++ more) ≡ with_records (marking text).records (marking ((marking text).rest ++ more)) }
+{}
+
+/// A refusal stays, however the text goes on.
+pub fn a_refusal_stays()
+    ensures { (text more : List ℕ) (fault : RecordFault) → (marking text).refusal ≡ Some fault
+        → marking (text ++ more) ≡ with_records (marking text).records (none_whole ((marking text).rest ++ more) (Some fault)) }
+{}
+
+/// The rest has no whole record, and is refused exactly where the marking says so.
+pub fn the_rest_is_no_record()
+    ensures partial { (text : List ℕ) → (marking text).refusal ≡ None → first_record (marking text).rest ≡ Partial }
+    ensures refused { (text : List ℕ) (fault : RecordFault) → (marking text).refusal ≡ Some fault
+        → first_record (marking text).rest ≡ Refused fault }
+{}

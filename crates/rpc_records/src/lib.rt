@@ -1,0 +1,19 @@
+//! Record marking (RFC 5531, section 11): how a stream of bytes is cut into records.
+//!
+//! It promises that in whatever pieces a stream comes, the records kept one after another are those
+//! of the stream as a whole, and that a stream is refused exactly at the head that breaks a limit.
+//! After `Records::new` it takes no memory.
+//! It stands on `xdr_grammar` for words as bytes, and on `nfs3_types` for want of memory.
+#![tactic(auto)]
+
+mod fault;
+mod laws;
+mod limits;
+
+pub use fault::RecordFault;
+pub use laws::{
+    a_longer_text_keeps_its_records, a_marked_record_is_read, a_refusal_stays, a_tail_is_the_rest,
+    marked_records_are_read, the_rest_is_no_record,
+};
+pub use limits::{MOST_BYTES, MOST_FRAGMENTS};
+pub use nfs3_types::NoMemory;
