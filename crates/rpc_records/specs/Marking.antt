@@ -1,5 +1,5 @@
 -- Record marking of a whole text: its records in order, and what stands behind them.
-use Rattle.std.specs.Prelude.{◌≡◌, ℕ, zero, suc, ◌≤◌, List, [], ◌∷◌, ◌++◌, length, Option, Some, None}
+use Rattle.std.specs.Prelude.{ℕ, zero, suc, ◌≤◌, List, [], ◌∷◌, ◌++◌, length, Option, Some, None}
 use Rattle.rpc_records.specs.declared.fault.RecordFault.{RecordFault}
 use Rattle.rpc_records.specs.declared.limits.TheConstants.{MOST_BYTES}
 use Rattle.rpc_records.specs.Reading.{Reading, first_record}

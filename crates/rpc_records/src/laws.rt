@@ -5,8 +5,15 @@ ghost use Rattle.std.specs.Prelude.{◌≡◌, ℕ, ◌≤◌, ◌++◌, All, Li
 ghost use Rattle.std.specs.List.{flat_map};
 ghost use Rattle.rpc_records.specs.Reading.{first_record, marked};
 ghost use Rattle.rpc_records.specs.Reading.Reading.{Whole, Partial, Refused};
-ghost use Rattle.rpc_records.specs.Marking.{IsShort, marking, none_whole, with_records};
+ghost use Rattle.rpc_records.specs.Marking.{IsShort, marked_from, marking, marking_within, none_whole, with_records};
 ghost use Rattle.rpc_records.specs.declared.fault.RecordFault.{RecordFault};
+
+/// Record marking goes record by record, and a bound on the records changes nothing where it is at
+/// least the number of bytes.
+pub fn marking_goes_record_by_record()
+    ensures each { (text : List ℕ) → marking text ≡ marked_from marking text (first_record text) }
+    ensures bound { (bound : ℕ) (text : List ℕ) → length text ≤ bound → marking_within bound text ≡ marking text }
+{}
 
 /// What is written as one record is read as one, whatever follows it.
 pub fn a_marked_record_is_read()

@@ -13,7 +13,7 @@ mod limits;
 pub use fault::RecordFault;
 pub use laws::{
     a_longer_text_keeps_its_records, a_marked_record_is_read, a_refusal_stays, a_tail_is_the_rest,
-    marked_records_are_read, the_rest_is_no_record,
+    marked_records_are_read, marking_goes_record_by_record, the_rest_is_no_record,
 };
 pub use limits::{MOST_BYTES, MOST_FRAGMENTS};
 pub use nfs3_types::NoMemory;

@@ -1,0 +1,179 @@
+-- The record at the front of a text: its cases, a longer text, and a record that was written.
+use Rattle.std.proofs.Common.{◌≡◌, ℕ, zero, suc, ◌+◌, ◌-◌, ◌^◌, ◌%◌, ◌<◌, ◌≤◌, Bool, true, false, List, [], ◌++◌, length, take, drop, refl, sym, ◌∙◌, inl, inr, append_assoc, length-append, length-drop, arith}
+use Rattle.std.specs.Prelude.{nat_lt}
+use Rattle.std.proofs.Math.Nat.{add-mod_left, mod-eq_of_lt}
+use Rattle.std.proofs.lemmas.Bool.{lt-ltb, le-ltb, le-leb, cases_lt}
+use Rattle.std.proofs.lemmas.List.{take-append-le, drop-append-le, take_at, drop_at}
+use Rattle.byteorder.specs.Numbers.{big_from-append, big_number-reads_back, length-bytes_high_first}
+use Rattle.xdr_grammar.specs.Items.{word}
+use Rattle.rpc_records.specs.declared.limits.TheConstants.{MOST_BYTES}
+use Rattle.rpc_records.specs.declared.fault.RecordFault.TheVariants.{TooLong, TooManyFragments}
+use Rattle.rpc_records.specs.Reading.{Reading, marked, head_of, is_last, fragment_length, fragment_at, record_at}
+use Rattle.rpc_records.specs.Reading.Reading.{Whole, Partial, Refused}
+
+-- ---- the cases
+
+pub fragment_at-short : (go_on : List ℕ → List ℕ → Reading) (last : Bool) (size : ℕ) (content text : List ℕ) → length text < size → fragment_at go_on last size content text ≡ Partial
+unfolding fragment_at
+fragment_at-short go_on last size content text h = let e : nat_lt (length text) size ≡ true = lt-ltb _ _ h in rw e refl
+
+pub fragment_at-last : (go_on : List ℕ → List ℕ → Reading) (size : ℕ) (content text : List ℕ) → size ≤ length text → fragment_at go_on true size content text ≡ Whole (content ++ take size text) (drop size text)
+unfolding fragment_at
+fragment_at-last go_on size content text h = let e : nat_lt (length text) size ≡ false = le-ltb _ _ h in rw e refl
+
+pub fragment_at-more : (go_on : List ℕ → List ℕ → Reading) (size : ℕ) (content text : List ℕ) → size ≤ length text → fragment_at go_on false size content text ≡ go_on (content ++ take size text) (drop size text)
+unfolding fragment_at
+fragment_at-more go_on size content text h = let e : nat_lt (length text) size ≡ false = le-ltb _ _ h in rw e refl
+
+pub record_at-short : (n : ℕ) (content text : List ℕ) → length text < 4 → record_at n content text ≡ Partial
+unfolding record_at
+record_at-short zero content text h = let e : nat_lt (length text) 4 ≡ true = lt-ltb _ _ h in rw e refl
+record_at-short (suc n) content text h = let e : nat_lt (length text) 4 ≡ true = lt-ltb _ _ h in rw e refl
+
+pub record_at-none : (content text : List ℕ) → 4 ≤ length text → record_at 0 content text ≡ Refused TooManyFragments
+unfolding record_at
+record_at-none content text h = let e : nat_lt (length text) 4 ≡ false = le-ltb _ _ h in rw e refl
+
+pub record_at-long : (n : ℕ) (content text : List ℕ) → 4 ≤ length text → MOST_BYTES < length content + fragment_length (head_of text) → record_at (suc n) content text ≡ Refused TooLong
+unfolding record_at
+record_at-long n content text h long =
+    let e : nat_lt (length text) 4 ≡ false = le-ltb _ _ h in
+    let l : nat_lt MOST_BYTES (length content + fragment_length (head_of text)) ≡ true = lt-ltb _ _ long in
+    rw (e, l) refl
+
+pub record_at-fits : (n : ℕ) (content text : List ℕ) → 4 ≤ length text → length content + fragment_length (head_of text) ≤ MOST_BYTES
+    → record_at (suc n) content text ≡ fragment_at (record_at n) (is_last (head_of text)) (fragment_length (head_of text)) content (drop 4 text)
+unfolding record_at
+record_at-fits n content text h fits =
+    let e : nat_lt (length text) 4 ≡ false = le-ltb _ _ h in
+    let l : nat_lt MOST_BYTES (length content + fragment_length (head_of text)) ≡ false = le-ltb _ _ fits in
+    rw (e, l) refl
+
+-- ---- a longer text
+
+pub head_of-append : (text more : List ℕ) → 4 ≤ length text → head_of (text ++ more) ≡ head_of text
+unfolding head_of
+head_of-append text more h = big_from-append 4 text more h
+
+-- the reading of a longer text, where that of the shorter one is known
+abbrev pub IsLonger : List ℕ → Reading → Reading → Type 0
+IsLonger more (Whole content rest) longer = longer ≡ Whole content (rest ++ more)
+IsLonger more Partial longer = Unit {0}
+IsLonger more (Refused fault) longer = longer ≡ Refused fault
+
+IsLonger-refused : (more : List ℕ) (short long : Reading) → short ≡ long → ((content rest : List ℕ) → short ≡ Whole content rest → ⊥) → IsLonger more short long
+IsLonger-refused more (Whole content rest) long e not_whole = absurd (not_whole content rest refl)
+IsLonger-refused more Partial long e not_whole = tt
+IsLonger-refused more (Refused fault) long e not_whole = sym e
+
+pub fragment_at-longer : (go_on : List ℕ → List ℕ → Reading) (last : Bool) (size : ℕ) (content text more : List ℕ)
+    → ((c t : List ℕ) → IsLonger more (go_on c t) (go_on c (t ++ more)))
+    → IsLonger more (fragment_at go_on last size content text) (fragment_at go_on last size content (text ++ more))
+fragment_at-longer go_on last size content text more longer = elim (cases_lt (length text) size) [
+  | inl short ↦ rw (fragment_at-short go_on last size content text short) tt
+  | inr enough ↦
+      let enough_more : size ≤ length (text ++ more) = omega (arith, length-append text more) in
+      let front = take-append-le size text more enough in
+      let back = drop-append-le size text more enough in
+      elim last as (λ b. IsLonger more (fragment_at go_on b size content text) (fragment_at go_on b size content (text ++ more))) [
+        | true ↦ rw (fragment_at-last go_on size content text enough, fragment_at-last go_on size content (text ++ more) enough_more, front, back) refl
+        | false ↦ rw (fragment_at-more go_on size content text enough, fragment_at-more go_on size content (text ++ more) enough_more, front, back) (longer (content ++ take size text) (drop size text))
+      ]
+]
+
+pub record_at-longer : (n : ℕ) (content text more : List ℕ) → IsLonger more (record_at n content text) (record_at n content (text ++ more))
+record_at-longer zero content text more = elim (cases_lt (length text) 4) [
+  | inl short ↦ rw (record_at-short 0 content text short) tt
+  | inr enough ↦
+      let enough_more : 4 ≤ length (text ++ more) = omega (arith, length-append text more) in
+      rw (record_at-none content text enough, record_at-none content (text ++ more) enough_more) refl
+]
+record_at-longer (suc n) content text more = elim (cases_lt (length text) 4) [
+  | inl short ↦ rw (record_at-short (suc n) content text short) tt
+  | inr enough ↦
+      let enough_more : 4 ≤ length (text ++ more) = omega (arith, length-append text more) in
+      let head = head_of-append text more enough in
+      elim (cases_lt MOST_BYTES (length content + fragment_length (head_of text))) [
+        | inl long ↦
+            let long_more : MOST_BYTES < length content + fragment_length (head_of (text ++ more)) = rw head long in
+            rw (record_at-long n content text enough long, record_at-long n content (text ++ more) enough_more long_more) refl
+        | inr fits ↦
+            let fits_more : length content + fragment_length (head_of (text ++ more)) ≤ MOST_BYTES = rw head fits in
+            rw (record_at-fits n content text enough fits, record_at-fits n content (text ++ more) enough_more fits_more, head, drop-append-le 4 text more enough)
+            (fragment_at-longer (record_at n) (is_last (head_of text)) (fragment_length (head_of text)) content (drop 4 text) more (λ c t. record_at-longer n c t more))
+      ]
+]
+
+-- ---- what stands behind a record
+
+-- at most so many bytes stand behind a whole record
+abbrev pub Leaves : ℕ → Reading → Type 0
+Leaves most (Whole content rest) = length rest ≤ most
+Leaves most Partial = Unit {0}
+Leaves most (Refused fault) = Unit {0}
+
+Leaves-more : (few most : ℕ) (reading : Reading) → few ≤ most → Leaves few reading → Leaves most reading
+Leaves-more few most (Whole content rest) h l = omega arith
+Leaves-more few most Partial h l = tt
+Leaves-more few most (Refused fault) h l = tt
+
+fragment_at-leaves : (go_on : List ℕ → List ℕ → Reading) (last : Bool) (size : ℕ) (content text : List ℕ)
+    → ((c t : List ℕ) → Leaves (length t) (go_on c t)) → Leaves (length text) (fragment_at go_on last size content text)
+fragment_at-leaves go_on last size content text leaves = elim (cases_lt (length text) size) [
+  | inl short ↦ rw (fragment_at-short go_on last size content text short) tt
+  | inr enough ↦ elim last as (λ b. Leaves (length text) (fragment_at go_on b size content text)) [
+    | true ↦ rw (fragment_at-last go_on size content text enough) (omega (arith, length-drop size text))
+    | false ↦ rw (fragment_at-more go_on size content text enough)
+        (Leaves-more (length (drop size text)) (length text) _ (omega (arith, length-drop size text)) (leaves (content ++ take size text) (drop size text)))
+  ]
+]
+
+pub record_at-leaves : (n : ℕ) (content text : List ℕ) → Leaves (length text - 4) (record_at n content text)
+record_at-leaves zero content text = elim (cases_lt (length text) 4) [
+  | inl short ↦ rw (record_at-short 0 content text short) tt
+  | inr enough ↦ rw (record_at-none content text enough) tt
+]
+record_at-leaves (suc n) content text = elim (cases_lt (length text) 4) [
+  | inl short ↦ rw (record_at-short (suc n) content text short) tt
+  | inr enough ↦ elim (cases_lt MOST_BYTES (length content + fragment_length (head_of text))) [
+    | inl long ↦ rw (record_at-long n content text enough long) tt
+    | inr fits ↦ rw (record_at-fits n content text enough fits, ← length-drop 4 text)
+        (fragment_at-leaves (record_at n) (is_last (head_of text)) (fragment_length (head_of text)) content (drop 4 text)
+        (λ c t. Leaves-more (length t - 4) (length t) (record_at n c t) (omega arith) (record_at-leaves n c t)))
+  ]
+]
+
+-- ---- a record that was written
+
+length-mark : (x : ℕ) → length (word.spelling x) ≡ 4
+unfolding word
+length-mark x = length-bytes_high_first 4 x
+
+head_of-mark : (x : ℕ) (more : List ℕ) → x < 256 ^ 4 → head_of (word.spelling x ++ more) ≡ x
+unfolding word head_of
+head_of-mark x more h = big_number-reads_back 4 x more h
+
+-- the length under the top bit
+length_under : (top n : ℕ) → n < top → (top + n) % top ≡ n
+length_under top n h = add-mod_left top n ∙ mod-eq_of_lt h
+
+-- reading goes on behind a head that was written
+pub record_at-mark : (n x : ℕ) (content more : List ℕ) → x < 2 ^ 32 → length content + fragment_length x ≤ MOST_BYTES
+    → record_at (suc n) content (word.spelling x ++ more) ≡ fragment_at (record_at n) (is_last x) (fragment_length x) content more
+record_at-mark n x content more small fits =
+    let mark = word.spelling x in
+    let text = mark ++ more in
+    let enough : 4 ≤ length text = omega (arith, length-append mark more, length-mark x) in
+    let head : head_of text ≡ x = head_of-mark x more (omega arith) in
+    let fits_head : length content + fragment_length (head_of text) ≤ MOST_BYTES = rw head fits in
+    rw (record_at-fits n content text enough fits_head, head, drop_at mark more 4 (length-mark x)) refl
+
+pub record_at-marked : (n : ℕ) (content more : List ℕ) → length content ≤ MOST_BYTES → record_at (suc n) [] (marked content ++ more) ≡ Whole content more
+unfolding marked
+record_at-marked n content more h =
+    let size = length content in
+    let last : is_last (2 ^ 31 + size) ≡ true = le-leb _ _ (omega arith) in
+    let long : fragment_length (2 ^ 31 + size) ≡ size = length_under (2 ^ 31) size (omega arith) in
+    let step = record_at-mark n (2 ^ 31 + size) [] (content ++ more) (omega arith) (rw long (omega arith)) in
+    let enough : size ≤ length (content ++ more) = omega (arith, length-append content more) in
+    rw (append_assoc (word.spelling (2 ^ 31 + size)) content more, step, last, long, fragment_at-last (record_at n) size [] (content ++ more) enough, take_at content more size refl, drop_at content more size refl) refl
