@@ -1,11 +1,11 @@
 -- Where each count of bad fates stands, and what one more in a place does to the counts.
-use Rattle.std.proofs.Common.{◌≡◌, ◌≢◌, ℕ, ◌+◌, ◌*◌, ◌-◌, ◌^◌, ◌<◌, ◌≤◌, min, Bool, true, false, ◌==◌, ◌&&◌, nat_lt, cond, List, length, get_or, set, replicate, IsTrue, refl, sym, ◌∙◌, ap, subst, arith, ⊎_elim}
+use Rattle.std.proofs.Common.{◌≡◌, ◌≢◌, ℕ, ◌+◌, ◌*◌, ◌<◌, ◌≤◌, true, false, cond, List, length, get_or, set, refl, sym, ◌∙◌, ap, arith, ⊎_elim}
 use Rattle.std.proofs.lemmas.List.{get_or-set_same, get_or-set_other, get_or-replicate}
 use Rattle.std.proofs.lemmas.Bool.{cases_lt, cases_eq, lt-ltb, le-ltb, eq-eqb, ne_eqb}
 use Rattle.outside.specs.declared.weather.Fate.{Fate}
 use Rattle.outside.specs.declared.weather.MessageName.{MessageName}
 use Rattle.outside.specs.BadFates.{place_of, counts_at, no_counts, counted}
-use Rattle.outside.specs.Count.{Rose, one_more}
+use Rattle.outside.specs.Count.{one_more}
 use Rattle.outside.specs.Weather.{Counts, is_bad, concerns}
 
 apart : (s r : ℕ) → s < 16 → r < 5 → place_of s r ≡ s * 5 + r
@@ -52,7 +52,7 @@ count-other : (counts : List ℕ) (p v s r : ℕ) → place_of s r ≢ p → cou
 unfolding counts_at
 count-other counts p v s r ne = get_or-set_other counts p (place_of s r) v 0 ne
 
-count-here : (counts : List ℕ) (p s r : ℕ) → place_of s r ≡ p → counts_at counts s r ≡ get_or counts p 0
+pub count-here : (counts : List ℕ) (p s r : ℕ) → place_of s r ≡ p → counts_at counts s r ≡ get_or counts p 0
 unfolding counts_at
 count-here counts p s r e = ap (λ k. get_or counts k 0) e
 

@@ -1,3 +1,5 @@
+ghost use Rattle.std.specs.Prelude.{◌≡◌, IfOk};
+
 use super::*;
 use std::io::{ErrorKind, Read, Write};
 use std::test::*;
@@ -122,7 +124,7 @@ struct FailsOnce {
 impl FailsOnce {
     /// The next call.
     fn call(&mut self) -> io::Result<usize>
-        ensures { Rattle.std.specs.Prelude.IfOk result (λ n. n ≡ 0) }
+        ensures { IfOk result (λ n. n ≡ 0) }
     {
         if self.failed {
             return Ok(0);

@@ -1,7 +1,6 @@
-use Rattle.std.proofs.Common.{length, get_or, ◌<◌, ◌^◌, ◌≡◌, refl, sym, arith, true, false, ◌∙◌}
-use Rattle.outside.specs.BadFates.{counted, place_of}
+use Rattle.std.proofs.Common.{◌≡◌, refl, sym, true, false, ◌∙◌}
 use Rattle.outside.specs.Weather.{is_bad}
-use Rattle.outside.proofs.Places.{counts-bad, counts-good, counted-bad, counted-good}
+use Rattle.outside.proofs.Places.{counts-bad, counted-bad, counted-good}
 use Rattle.outside.proofs.bad_fates.BadFates.count.Goals as goal
 
 pub returns-then-is_bad-clause-exact : goal.returns-then-is_bad-clause-exact
