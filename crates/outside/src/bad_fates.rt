@@ -9,7 +9,7 @@ use crate::weather::{Fate, MOST_REPLICAS, MOST_STORES, MessageName};
 use std::marker::Model;
 
 /// A place for each store and replica below the limits, and one that all others share.
-const PLACES: usize = 81;
+const PLACES: usize = (MOST_STORES * MOST_REPLICAS + 1) as usize;
 
 /// How many bad fates the messages of each store and replica met. Those that are not below the
 /// limits share one count. A contract sees the counts in their places. It takes no memory.

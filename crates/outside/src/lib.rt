@@ -4,6 +4,7 @@
 //! It promises traits whose contracts say what was taken, put and given, where an object tells it,
 //! and that a fault comes only where the object's own count of faults rose. Beside the traits it has
 //! objects in memory, which tell everything, and thin adapters over the machine's, which tell nothing.
+//! Its laws say that steps in a row compose, and that the sum of bad fates rises with its parts.
 //! It stands on `nfs3_types`.
 #![tactic(auto)]
 

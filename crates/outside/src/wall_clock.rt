@@ -1,6 +1,7 @@
 //! The machine's clock.
 
-ghost use Rattle.std.specs.Prelude.{◌≡◌, ◌<◌, ◌≤◌, [], ◌∷◌, None};
+ghost use Rattle.std.specs.Prelude.{◌≡◌, ◌+◌, ◌-◌, ◌/◌, ◌%◌, ◌^◌, ◌<◌, ◌≤◌, [], ◌∷◌, None, min};
+ghost use Rattle.std.specs.Duration.{as_nanos};
 ghost use Rattle.outside.specs.Clock.{GaveMoments};
 
 use crate::clock::Clock;
@@ -8,6 +9,7 @@ use crate::count::one_more;
 use nfs3_types::Moment;
 use std::marker::Model;
 use std::rt;
+use std::time::Duration;
 
 /// A clock that gives the machine's time since 1970. Past the last second that fits, it gives that
 /// one. Where the machine's clock cannot be read, it gives (0, 0). It tells nothing of the moments.
@@ -41,6 +43,17 @@ impl<R: rt::Clock> WallClock<R> {
     }
 }
 
+/// A time since 1970 as a moment.
+fn moment_of(time: Duration) -> Moment
+    ensures seconds { result.seconds ≡ min (as_nanos time / 1_000_000_000) (2 ^ 32 - 1) }
+    ensures nanos { result.nanos ≡ as_nanos time % 1_000_000_000 }
+{
+    Moment {
+        seconds: u32::try_from(time.as_secs()).unwrap_or(u32::MAX),
+        nanos: time.subsec_nanos(),
+    }
+}
+
 impl<R: rt::Clock> Clock for WallClock<R> {
     ghost given = { λ _. None };
 
@@ -53,13 +66,11 @@ impl<R: rt::Clock> Clock for WallClock<R> {
         ensures nanos { result.nanos < 1_000_000_000 }
         ensures same_machine { self.new.inner ≡ self.old.inner }
         ensures never_falls { self.old.faults ≤ self.new.faults }
+        ensures counted { self.old.faults < self.new.faults → self.new.faults ≡ self.old.faults + 1 }
         ensures unread { self.old.faults < self.new.faults → result ≡ record { seconds = 0; nanos = 0 } }
     {
         match self.machine.since_1970() {
-            Ok(time) => Moment {
-                seconds: u32::try_from(time.as_secs()).unwrap_or(u32::MAX),
-                nanos: time.subsec_nanos(),
-            },
+            Ok(time) => moment_of(time),
             Err(_) => {
                 self.faults = one_more(self.faults);
                 Moment {

@@ -84,7 +84,8 @@ pub trait Weather {
         ensures same_silence { (store replica : ℕ) (kind : MessageKind) → silent self.new store replica kind ≡ silent self.old store replica kind };
 
     /// Which of the `held` messages comes now, before a fresh one is sent: the k-th in the order in
-    /// which they were held back, from 0, where k is below `held`; else none.
+    /// which they were held back, from 0, where k is below `held`; else none. Which one it is, or
+    /// none, is free.
     fn stray(&mut self, held: u64) -> Option<u64>
         ensures same_counts { (store replica : ℕ) → bad self.new store replica ≡ bad self.old store replica }
         ensures same_told { to_come self.new ≡ to_come self.old }
