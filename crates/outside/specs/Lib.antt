@@ -9,3 +9,4 @@ pub mod BadFates
 pub mod ListWeather
 pub mod LostReplicas
 pub mod Adapter
+pub mod Steps

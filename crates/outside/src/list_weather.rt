@@ -74,7 +74,8 @@ impl Weather for ListWeather {
 
         // It gives the first fate, or delivers, and counts it.
         ensures exact { result ≡ next_fate self.old.to_come }
-        ensures later { self.new ≡ record { to_come = drop 1 self.old.to_come; bad = counted self.old.bad message result } }
+        ensures later { self.new.to_come ≡ drop 1 self.old.to_come }
+        ensures counted { self.new.bad ≡ counted self.old.bad message result }
     {
         let (fate, place) = draw(&self.fates, self.place);
         self.place = place;

@@ -56,11 +56,12 @@ impl Weather for LostReplicas {
     fn fate(&mut self, message: MessageName) -> Fate
         ensures counts { Counts (counts_at self.old.bad) (counts_at self.new.bad) message result }
         ensures lost { nat_lt message.replica self.old.lost ≡ true → result ≡ Fate.Lose }
-        ensures same_silence { (store replica : ℕ) (kind : MessageKind) → nat_lt replica self.new.lost ≡ nat_lt replica self.old.lost }
+        ensures same_silence { (store replica : ℕ) (kind : MessageKind)
+            → nat_lt replica self.new.lost ≡ nat_lt replica self.old.lost }
 
         // It loses those messages and no others, and counts them.
         ensures exact { result ≡ (if nat_lt message.replica self.old.lost then Fate.Lose else Fate.Deliver) }
-        ensures later { self.new ≡ record self.old { bad = counted self.old.bad message result } }
+        ensures counted { self.new ≡ record self.old { bad = counted self.old.bad message result } }
     {
         let fate = if message.replica < self.lost {
             Fate::Lose
@@ -72,8 +73,10 @@ impl Weather for LostReplicas {
     }
 
     fn stray(&mut self, held: u64) -> Option<u64>
-        ensures same_counts { (store replica : ℕ) → counts_at self.new.bad store replica ≡ counts_at self.old.bad store replica }
-        ensures same_silence { (store replica : ℕ) (kind : MessageKind) → nat_lt replica self.new.lost ≡ nat_lt replica self.old.lost }
+        ensures same_counts { (store replica : ℕ)
+            → counts_at self.new.bad store replica ≡ counts_at self.old.bad store replica }
+        ensures same_silence { (store replica : ℕ) (kind : MessageKind)
+            → nat_lt replica self.new.lost ≡ nat_lt replica self.old.lost }
         ensures exact { result ≡ None }
         ensures unchanged { self.new ≡ self.old }
     {
