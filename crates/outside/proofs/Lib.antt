@@ -3,3 +3,4 @@ pub mod Moments
 pub mod ToldLaws
 pub mod MomentLaws
 pub mod CountLaws
+pub mod Places

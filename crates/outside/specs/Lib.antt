@@ -5,3 +5,8 @@ pub mod Plan
 pub mod Source
 pub mod Sink
 pub mod Weather
+pub mod BadFates
+pub mod ListWeather
+pub mod LostReplicas
+pub mod Adapter
+pub mod Steps

@@ -3,7 +3,7 @@
 ghost use Rattle.std.specs.Prelude.{◌≡◌, ℕ, List, Bool, true, Option};
 ghost use Rattle.outside.specs.declared.weather.Fate.{Fate};
 ghost use Rattle.outside.specs.declared.weather.MessageKind.{MessageKind};
-ghost use Rattle.outside.specs.Weather.{Counts, Draws};
+ghost use Rattle.outside.specs.Weather.{Counts, Draws, is_bad};
 
 /// Bad fates are counted apart for each store numbered below this.
 pub const MOST_STORES: u32 = 16;
@@ -56,6 +56,15 @@ pub enum Fate {
     Repeat,
 }
 
+impl Fate {
+    /// Whether it keeps the message from its receiver.
+    pub fn is_bad(self) -> bool
+        ensures { result ≡ is_bad self }
+    {
+        matches!(self, Fate::Lose | Fate::Hold)
+    }
+}
+
 /// Decides what becomes of each message. A fate that loses or holds a message is a bad one.
 pub trait Weather {
     /// How many bad fates the messages of a store and a replica met.
@@ -75,9 +84,26 @@ pub trait Weather {
         ensures same_silence { (store replica : ℕ) (kind : MessageKind) → silent self.new store replica kind ≡ silent self.old store replica kind };
 
     /// Which of the `held` messages comes now, before a fresh one is sent: the k-th in the order in
-    /// which they were held back, from 0, where k is below `held`; else none.
+    /// which they were held back, from 0, where k is below `held`; else none. Which one it is, or
+    /// none, is free.
     fn stray(&mut self, held: u64) -> Option<u64>
         ensures same_counts { (store replica : ℕ) → bad self.new store replica ≡ bad self.old store replica }
         ensures same_told { to_come self.new ≡ to_come self.old }
         ensures same_silence { (store replica : ℕ) (kind : MessageKind) → silent self.new store replica kind ≡ silent self.old store replica kind };
+}
+
+impl<W: Weather> Weather for &mut W {
+    ghost bad = { λ weather. W.bad weather.now };
+
+    ghost to_come = { λ weather. W.to_come weather.now };
+
+    ghost silent = { λ weather. W.silent weather.now };
+
+    fn fate(&mut self, message: MessageName) -> Fate {
+        Weather::fate(&mut **self, message)
+    }
+
+    fn stray(&mut self, held: u64) -> Option<u64> {
+        Weather::stray(&mut **self, held)
+    }
 }

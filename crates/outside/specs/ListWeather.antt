@@ -1,0 +1,14 @@
+-- A list of fates as a weather.
+use Rattle.std.specs.Prelude.{ℕ, List, [], ◌∷◌}
+use Rattle.outside.specs.declared.weather.Fate.{Fate}
+use Rattle.outside.specs.declared.weather.Fate.TheVariants.{Deliver}
+
+-- the fates to come, and the counts of bad ones in their places
+pub record FateList : Type 0 where
+  pub to_come : List Fate
+  pub bad : List ℕ
+
+-- the first fate to come; after the last one all are Deliver
+abbrev pub next_fate : List Fate → Fate
+next_fate [] = Deliver
+next_fate (first ∷ rest) = first
