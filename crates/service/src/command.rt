@@ -1,0 +1,128 @@
+//! The top call.
+
+ghost use Rattle.std.specs.Prelude.{◌≡◌, ◌↔◌, IfOk, OnErr};
+ghost use Rattle.outside.specs.Count.{Rose};
+ghost use Rattle.service.specs.Run.{IsFeed, Feeds, IsUntouched, Outcome, Runs, Tells, line_of, status_of};
+
+use crate::answering::LONGEST_REPLY;
+use crate::first_tree::FirstTree;
+use crate::put_all::put_all;
+use crate::session::{ROOM, SessionEnd, session};
+use crate::words::is_feed;
+use outside::{Clock, NoMemory, Sink, Source, Weather};
+use std::alloc::Global;
+
+/// How a run ended.
+#[derive(Clone, Copy, Debug, PartialEq, Eq)]
+pub enum RunEnd {
+    /// The words are no command.
+    Usage,
+    /// Memory ran out before the first take.
+    NoMemory,
+    /// The session ended so.
+    Session(SessionEnd),
+}
+
+/// The exit status of an end.
+fn status(end: RunEnd) -> u8
+    ensures { result ≡ status_of end }
+{
+    match end {
+        RunEnd::Session(SessionEnd::Done) => 0,
+        RunEnd::Usage => 1,
+        RunEnd::Session(SessionEnd::ReadFault) => 2,
+        RunEnd::Session(SessionEnd::WriteFault) => 3,
+        RunEnd::Session(SessionEnd::CutRecord) => 4,
+        RunEnd::NoMemory => 7,
+        RunEnd::Session(SessionEnd::ManyReads) => 8,
+        RunEnd::Session(SessionEnd::NotBuilt) => 11,
+    }
+}
+
+/// The line of an end on the error sink.
+#[tactic(auto, unfolding(crate::specs::Run::line_of))]
+fn line(end: RunEnd) -> &'static [u8]
+    ensures { result.now ≡ line_of end }
+{
+    match end {
+        RunEnd::Session(SessionEnd::Done) => b"",
+        RunEnd::Usage =>
+            b"fss: usage: fss feed [STORES REPLICAS] | fss work NUMBER CALLS [STORES REPLICAS LOST ROUGH] | fss serve ADDRESS WORKERS CONNECTIONS STORES REPLICAS\n",
+        RunEnd::Session(SessionEnd::ReadFault) => b"fss: input failed\n",
+        RunEnd::Session(SessionEnd::WriteFault) => b"fss: output failed\n",
+        RunEnd::Session(SessionEnd::CutRecord) => b"fss: input ended inside a record\n",
+        RunEnd::NoMemory => b"fss: no memory\n",
+        RunEnd::Session(SessionEnd::ManyReads) => b"fss: too many reads\n",
+        RunEnd::Session(SessionEnd::NotBuilt) => b"fss: not built\n",
+    }
+}
+
+/// Puts the line of an end, or as much of it as the sink takes.
+fn tell<E: Sink>(errors: &mut E, end: RunEnd)
+    ensures { Tells E.written E.faults errors.old errors.new (line_of end) }
+{
+    let _ = put_all(errors, line(end));
+}
+
+/// Answers the records of the input on the tree as it begins, which is made at the clock's next
+/// moment. What it needs of memory it takes before it reads the clock or the input.
+fn feed<S: Source, C: Clock, K: Sink>(
+    alloc: Global,
+    input: &mut S,
+    clock: &mut C,
+    output: &mut K,
+) -> Result<SessionEnd, NoMemory>
+    ensures ok { IfOk result (λ end. Feeds S.taken S.left S.faults C.given C.to_come K.written K.faults
+        input.old input.new clock.old clock.new output.old output.new end) }
+    ensures err { OnErr result (IsUntouched input.old input.new clock.old clock.new output.old output.new) }
+{
+    let mut room = vec![in alloc; 0u8; ROOM]?;
+    let mut reply = Vec::with_capacity(alloc, LONGEST_REPLY)?;
+    let tree = FirstTree { first: clock.now() };
+    Ok(session(&tree, &mut room, &mut reply, input, clock, output))
+}
+
+/// Runs the command of the words.
+fn run_command<S: Source, C: Clock, K: Sink>(
+    alloc: Global,
+    words: &[String],
+    input: &mut S,
+    clock: &mut C,
+    output: &mut K,
+) -> RunEnd
+    ensures { Outcome S.taken S.left S.faults C.given C.to_come K.written K.faults words.now
+        input.old input.new clock.old clock.new output.old output.new result }
+{
+    if !is_feed(words) {
+        return RunEnd::Usage;
+    }
+    match feed(alloc, input, clock, output) {
+        Ok(end) => RunEnd::Session(end),
+        Err(NoMemory) => RunEnd::NoMemory,
+    }
+}
+
+/// Runs the command that the words are, and answers its exit status. Of commands there is `feed`:
+/// it answers the records of the input in order, on the output. A line on the error sink says why it
+/// ended, where that is not the end of the input between two records.
+pub fn run<S: Source, K: Sink, E: Sink, C: Clock, W: Weather>(
+    alloc: Global,
+    words: &[String],
+    input: &mut S,
+    output: &mut K,
+    errors: &mut E,
+    clock: &mut C,
+    weather: &mut W,
+) -> u8
+    ensures runs { Runs S.taken S.left S.faults C.given C.to_come K.written K.faults E.written E.faults words.now
+        input.old input.new clock.old clock.new output.old output.new errors.old errors.new result }
+    ensures usage { (result ≡ 1) ↔ ¬ IsFeed words.now }
+    ensures read_fault { result ≡ 2 → Rose (S.faults input.old) (S.faults input.new) }
+    ensures write_fault { result ≡ 3 → Rose (K.faults output.old) (K.faults output.new) }
+    ensures no_memory { result ≡ 7 → IsUntouched input.old input.new clock.old clock.new output.old output.new }
+    ensures weather { weather.new ≡ weather.old }
+{
+    let end = run_command(alloc, words, input, clock, output);
+    tell(errors, end);
+    status(end)
+}
