@@ -1,6 +1,9 @@
+ghost use Rattle.std.specs.Prelude.{◌≤◌};
+
 use super::*;
 use outside::{Calm, ListClock, MemSink, MemSource, Moment, Text};
 use std::alloc::Global;
+use std::process::Abort;
 use std::test::*;
 
 /// NULL with an empty credential of flavor AUTH_NONE, xid 1.
@@ -28,18 +31,6 @@ const GETATTR_REPLY: [u8; 116] = [
     1, 0, 0, 3, 0xe8, 0, 0, 0, 5, 0, 0, 3, 0xe8, 0, 0, 0, 5, 0, 0, 3, 0xe8, 0, 0, 0, 5,
 ];
 
-/// What `feed` is given, and what it has to answer and to write.
-struct Case<'a> {
-    words: &'a [&'a str],
-    input: &'a [&'a [u8]],
-    cut: usize,
-    source_faults: &'a [u8],
-    sink_faults: &'a [u8],
-    status: u8,
-    output: &'a [&'a [u8]],
-    line: &'a str,
-}
-
 fn joined(alloc: Global, parts: &[&[u8]]) -> Result<Vec<u8>, Fail> {
     let mut all = Vec::new(alloc);
     for part in parts {
@@ -48,204 +39,165 @@ fn joined(alloc: Global, parts: &[&[u8]]) -> Result<Vec<u8>, Fail> {
     Ok(all)
 }
 
-fn check(rt: &HostRuntime, case: &Case<'_>) -> Result<(), Fail> {
-    let alloc = rt.alloc();
-    assert!(rt; case.cut > 0);
-    let mut words = Vec::new(alloc);
-    for word in case.words {
-        words.push(String::from_str(alloc, word)?)?;
+/// Where the outside fails: the plans of the source and of the sink.
+#[derive(Clone, Copy)]
+struct Faults(u8, u8, u8);
+
+/// Runs the words on the input, in takes and puts of at most `cut` bytes. The first and second byte of
+/// the faults are the source's plan, the third one the sink's.
+fn check(
+    rt: &impl Abort,
+    alloc: Global,
+    words: &[&str],
+    content: Vec<u8>,
+    cut: usize,
+    faults: Faults,
+    status: u8,
+    written: &[u8],
+    line: &str,
+) -> Result<(), Fail>
+    requires { 1 ≤ cut }
+{
+    let mut list = Vec::new(alloc);
+    for word in words {
+        list.push(String::from_str(alloc, word)?)?;
     }
-    let content = Text::from_vec(joined(alloc, case.input)?);
-    let plan = Text::from_slice(alloc, case.source_faults)?;
-    let mut input = MemSource::new(content, case.cut, plan);
-    let plan = Text::from_slice(alloc, case.sink_faults)?;
-    let mut output = MemSink::new(alloc, case.cut, plan);
+    let plan = Text::from_slice(alloc, &[faults.0, faults.1])?;
+    let mut input = MemSource::new(Text::from_vec(content), cut, plan);
+    let plan = Text::from_slice(alloc, &[faults.2])?;
+    let mut output = MemSink::new(alloc, cut, plan);
     let mut errors = MemSink::new(alloc, 4096, Text::new(alloc));
     let mut moments = Vec::new(alloc);
     for (seconds, nanos) in [(1000, 5), (1001, 0)] {
         moments.push(Moment { seconds, nanos })?;
     }
     let mut clock = ListClock::new(moments);
-    let status = run(
+    let answer = run(
         alloc,
-        &words,
+        &list,
         &mut input,
         &mut output,
         &mut errors,
         &mut clock,
         &mut Calm,
     );
-    assert_eq!(rt; status, case.status);
-    let wanted = joined(alloc, case.output)?;
-    assert_eq!(rt; output.written(), wanted.as_slice());
-    assert_eq!(rt; errors.written(), case.line.as_bytes());
+    assert_eq!(rt; answer, status);
+    assert_eq!(rt; output.written(), written);
+    assert_eq!(rt; errors.written(), line.as_bytes());
     Ok(())
 }
 
-/// A usage line, as the program tells it.
+const NO_FAULT: Faults = Faults(0, 0, 0);
+
+const CUT: &str = "fss: input ended inside a record\n";
+
+const UNBUILT: &str = "fss: not built\n";
+
 const USAGE: &str =
     "fss: usage: fss feed [STORES REPLICAS] | fss work NUMBER CALLS [STORES REPLICAS LOST ROUGH] | fss serve ADDRESS WORKERS CONNECTIONS STORES REPLICAS\n";
 
 #[test]
-fn feed_answers_what_is_built_and_says_why_it_ended(rt: HostRuntime) -> Result<(), Fail> {
-    let cases = [
-        // no input, no output
-        Case {
-            words: &["feed"],
-            input: &[],
-            cut: 4096,
-            source_faults: &[],
-            sink_faults: &[],
-            status: 0,
-            output: &[],
-            line: "",
-        },
-        // one NULL record
-        Case {
-            words: &["feed"],
-            input: &[&NULL_CALL],
-            cut: 4096,
-            source_faults: &[],
-            sink_faults: &[],
-            status: 0,
-            output: &[&NULL_REPLY],
-            line: "",
-        },
-        // one GETATTR of the root, of the first moment
-        Case {
-            words: &["feed"],
-            input: &[&GETATTR_CALL],
-            cut: 4096,
-            source_faults: &[],
-            sink_faults: &[],
-            status: 0,
-            output: &[&GETATTR_REPLY],
-            line: "",
-        },
-        // the same in takes and puts of one byte
-        Case {
-            words: &["feed"],
-            input: &[&GETATTR_CALL, &NULL_CALL, &GETATTR_CALL],
-            cut: 1,
-            source_faults: &[],
-            sink_faults: &[],
-            status: 0,
-            output: &[&GETATTR_REPLY, &NULL_REPLY, &GETATTR_REPLY],
-            line: "",
-        },
-        // a record and then most of one
-        Case {
-            words: &["feed"],
-            input: &[&NULL_CALL, &NULL_CALL[..41]],
-            cut: 4096,
-            source_faults: &[],
-            sink_faults: &[],
-            status: 4,
-            output: &[&NULL_REPLY],
-            line: "fss: input ended inside a record\n",
-        },
-        // a cut head
-        Case {
-            words: &["feed"],
-            input: &[&NULL_CALL[..3]],
-            cut: 4096,
-            source_faults: &[],
-            sink_faults: &[],
-            status: 4,
-            output: &[],
-            line: "fss: input ended inside a record\n",
-        },
-        // a head whose top bit is not set
-        Case {
-            words: &["feed"],
-            input: &[&[0], &NULL_CALL[1..]],
-            cut: 4096,
-            source_faults: &[],
-            sink_faults: &[],
-            status: 11,
-            output: &[],
-            line: "fss: not built\n",
-        },
-        // a verifier that is not empty
-        Case {
-            words: &["feed"],
-            input: &[&NULL_CALL, &NULL_CALL[..43], &[1]],
-            cut: 4096,
-            source_faults: &[],
-            sink_faults: &[],
-            status: 11,
-            output: &[&NULL_REPLY],
-            line: "fss: not built\n",
-        },
-        // the second take fails after a whole record
-        Case {
-            words: &["feed"],
-            input: &[&NULL_CALL],
-            cut: 4096,
-            source_faults: &[0, 1],
-            sink_faults: &[],
-            status: 2,
-            output: &[&NULL_REPLY],
-            line: "fss: input failed\n",
-        },
-        // the source fails at once
-        Case {
-            words: &["feed"],
-            input: &[&NULL_CALL],
-            cut: 4096,
-            source_faults: &[1],
-            sink_faults: &[],
-            status: 2,
-            output: &[],
-            line: "fss: input failed\n",
-        },
-        // the first put fails
-        Case {
-            words: &["feed"],
-            input: &[&NULL_CALL],
-            cut: 4096,
-            source_faults: &[],
-            sink_faults: &[1],
-            status: 3,
-            output: &[],
-            line: "fss: output failed\n",
-        },
-        // no word
-        Case {
-            words: &[],
-            input: &[&NULL_CALL],
-            cut: 4096,
-            source_faults: &[],
-            sink_faults: &[],
-            status: 1,
-            output: &[],
-            line: USAGE,
-        },
-        // a word too many
-        Case {
-            words: &["feed", "4"],
-            input: &[&NULL_CALL],
-            cut: 4096,
-            source_faults: &[],
-            sink_faults: &[],
-            status: 1,
-            output: &[],
-            line: USAGE,
-        },
-        // another word
-        Case {
-            words: &["food"],
-            input: &[&NULL_CALL],
-            cut: 4096,
-            source_faults: &[],
-            sink_faults: &[],
-            status: 1,
-            output: &[],
-            line: USAGE,
-        },
-    ];
-    for case in &cases {
-        check(&rt, case)?;
-    }
-    Ok(())
+fn built_records_are_answered_and_others_end_the_session(rt: HostRuntime) -> Result<(), Fail> {
+    let alloc = rt.alloc();
+    let feed: &[&str] = &["feed"];
+    check(
+        &rt,
+        alloc,
+        feed,
+        joined(alloc, &[])?,
+        4096,
+        NO_FAULT,
+        0,
+        &[],
+        "",
+    )?;
+    let null = joined(alloc, &[&NULL_CALL])?;
+    check(&rt, alloc, feed, null, 4096, NO_FAULT, 0, &NULL_REPLY, "")?;
+    let getattr = joined(alloc, &[&GETATTR_CALL])?;
+    check(
+        &rt,
+        alloc,
+        feed,
+        getattr,
+        4096,
+        NO_FAULT,
+        0,
+        &GETATTR_REPLY,
+        "",
+    )?;
+    // one byte at a time, and the root keeps its first moment
+    let three = joined(alloc, &[&GETATTR_CALL, &NULL_CALL, &GETATTR_CALL])?;
+    let replies = joined(alloc, &[&GETATTR_REPLY, &NULL_REPLY, &GETATTR_REPLY])?;
+    check(&rt, alloc, feed, three, 1, NO_FAULT, 0, &replies, "")?;
+    // most of a second record; most of a head
+    let most = joined(alloc, &[&NULL_CALL, &NULL_CALL[..41]])?;
+    check(&rt, alloc, feed, most, 4096, NO_FAULT, 4, &NULL_REPLY, CUT)?;
+    let head = joined(alloc, &[&NULL_CALL[..3]])?;
+    check(&rt, alloc, feed, head, 4096, NO_FAULT, 4, &[], CUT)?;
+    // a head whose top bit is not set; a verifier that is not empty
+    let fragment = joined(alloc, &[&[0], &NULL_CALL[1..]])?;
+    check(&rt, alloc, feed, fragment, 4096, NO_FAULT, 11, &[], UNBUILT)?;
+    let verifier = joined(alloc, &[&NULL_CALL, &NULL_CALL[..43], &[1]])?;
+    check(
+        &rt,
+        alloc,
+        feed,
+        verifier,
+        4096,
+        NO_FAULT,
+        11,
+        &NULL_REPLY,
+        UNBUILT,
+    )
+}
+
+#[test]
+fn faults_and_words_have_their_statuses(rt: HostRuntime) -> Result<(), Fail> {
+    let alloc = rt.alloc();
+    let feed: &[&str] = &["feed"];
+    let failed = "fss: input failed\n";
+    let second = Faults(0, 1, 0);
+    let null = joined(alloc, &[&NULL_CALL])?;
+    check(&rt, alloc, feed, null, 4096, second, 2, &NULL_REPLY, failed)?;
+    let null = joined(alloc, &[&NULL_CALL])?;
+    check(
+        &rt,
+        alloc,
+        feed,
+        null,
+        4096,
+        Faults(1, 0, 0),
+        2,
+        &[],
+        failed,
+    )?;
+    let failed = "fss: output failed\n";
+    let null = joined(alloc, &[&NULL_CALL])?;
+    check(
+        &rt,
+        alloc,
+        feed,
+        null,
+        4096,
+        Faults(0, 0, 1),
+        3,
+        &[],
+        failed,
+    )?;
+    let null = joined(alloc, &[&NULL_CALL])?;
+    check(&rt, alloc, &[], null, 4096, NO_FAULT, 1, &[], USAGE)?;
+    let null = joined(alloc, &[&NULL_CALL])?;
+    check(
+        &rt,
+        alloc,
+        &["feed", "4"],
+        null,
+        4096,
+        NO_FAULT,
+        1,
+        &[],
+        USAGE,
+    )?;
+    let null = joined(alloc, &[&NULL_CALL])?;
+    check(&rt, alloc, &["food"], null, 4096, NO_FAULT, 1, &[], USAGE)
 }

@@ -1,5 +1,5 @@
 use Rattle.std.proofs.Common.{◌≡◌, ◌≤◌, length, refl, sym, ◌∙◌, arith}
-use Rattle.rpc_msg.specs.Message.{message_head, kind_of}
+use Rattle.rpc_msg.specs.Message.{kind_of}
 use Rattle.rpc_msg.proofs.Heads.{kind_read, no_fault, short_has_none, other_has_none}
 use Rattle.rpc_msg.proofs.call.read_call.Goals as goal
 
