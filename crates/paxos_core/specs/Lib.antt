@@ -1,0 +1,5 @@
+pub mod Ballot
+pub mod Standing
+pub mod Acceptor
+pub mod Majority
+pub mod Proposing

@@ -1,0 +1,14 @@
+//! x
+#![tactic(auto)]
+
+mod acceptor;
+mod ballot;
+mod copies;
+mod message;
+mod proposer;
+
+pub use acceptor::{Acceptor, Standing};
+pub use ballot::Ballot;
+pub use copies::Copies;
+pub use message::Message;
+pub use proposer::{Proposer, Stage};
