@@ -3,3 +3,5 @@ pub mod Standing
 pub mod Acceptor
 pub mod Majority
 pub mod Proposing
+pub mod World
+pub mod Votes

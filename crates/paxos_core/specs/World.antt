@@ -1,11 +1,11 @@
 -- Everyone at once: a machine whose steps are what may happen next, by the very words that the handlers keep.
-use Rattle.std.specs.Prelude.{◌≡◌, ℕ, Bool, true, ◌&&◌, ◌==◌, if◌then◌else◌, List, [], ◌∷◌, ◌++◌, Option, Some, None, slice_get}
+use Rattle.std.specs.Prelude.{◌≡◌, ℕ, Bool, true, false, ◌&&◌, ◌==◌, if◌then◌else◌, List, [], ◌∷◌, ◌++◌, Option, Some, None, slice_get}
 use Rattle.paxos_core.specs.declared.ballot.Ballot.{Ballot}
 use Rattle.paxos_core.specs.declared.message.Message.{Message}
 use Rattle.paxos_core.specs.declared.message.Message.TheVariants.{Ask, Promise, Put, Ack, Nack}
 use Rattle.paxos_core.specs.declared.acceptor.Standing.{Standing}
 use Rattle.paxos_core.specs.Ballot.{rank, is_below}
-use Rattle.paxos_core.specs.Standing.{blank, refuses, index_of, with_message, answer}
+use Rattle.paxos_core.specs.Standing.{blank, index_of, with_message, answer}
 use Rattle.paxos_core.specs.Proposing.{Proposing, begins, told, is_promised, value_of}
 
 -- a replica accepted this value at this index, under this ballot

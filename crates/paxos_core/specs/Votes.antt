@@ -1,0 +1,27 @@
+-- Votes, when a value is chosen, and the law of Paxos over every schedule.
+use Rattle.std.specs.Prelude.{◌≡◌, ℕ, ◌≤◌, ◌⊎◌, List, [], ◌∷◌, ◌++◌}
+use Rattle.std.specs.List.{count_by}
+use Rattle.paxos_core.specs.Ballot.{rank}
+use Rattle.paxos_core.specs.Majority.{IsMajority}
+use Rattle.paxos_core.specs.World.{Vote, World, Event, start, run, is_begin}
+
+module _ {V : Type 0} where
+  -- the vote is the replica's, at this index, under the ballot of this rank, for this value
+  pub record IsVote (vote : Vote V) (r i b : ℕ) (v : V) : Type 0 where
+    pub replica : vote.replica ≡ r
+    pub index : vote.index ≡ i
+    pub ballot : rank vote.ballot ≡ b
+    pub value : vote.value ≡ v
+
+  -- one of the votes is
+  abbrev pub HasVote : List (Vote V) → ℕ → ℕ → ℕ → V → Type 0
+  HasVote [] r i b v = ⊥
+  HasVote (vote ∷ votes) r i b v = IsVote vote r i b v ⊎ HasVote votes r i b v
+
+  -- a majority of n replicas have votes at the index with one ballot and this value
+  abbrev pub IsChosen : ℕ → List (Vote V) → ℕ → V → Type 0
+  IsChosen n votes i v = (b : ℕ) × IsMajority n (λ r. HasVote votes r i b v)
+
+  -- no two proposers of one index have one ballot: at most one event begins each
+  abbrev pub HasOwnBallots : List (Event V) → Type 0
+  HasOwnBallots events = (i b : ℕ) → count_by (is_begin i b) events ≤ 1
