@@ -6,3 +6,6 @@ pub mod Acceptance
 pub mod ProposingLemmas
 pub mod AtProposer
 pub mod Runs
+pub mod MessagesLemmas
+pub mod Tracking
+pub mod Stages

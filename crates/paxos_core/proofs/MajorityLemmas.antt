@@ -51,6 +51,14 @@ yes_count-mono (false ∷ xs) (true ∷ ys) e h = let k = yes_count-mono xs ys (
 yes_count-mono (true ∷ xs) (false ∷ ys) e h = let k : Some false ≡ Some true = h 0 refl in cc
 yes_count-mono (false ∷ xs) (false ∷ ys) e h = let k = yes_count-mono xs ys (omega arith) (λ r. h (suc r)) in omega (arith, yes_false xs, yes_false ys)
 
+-- marks are a majority where all those of a majority are among them
+pub majority-mono : (xs ys : List Bool) → length xs ≡ length ys → ((r : ℕ) → slice_get xs r ≡ Some true → slice_get ys r ≡ Some true) → is_majority xs ≡ true → is_majority ys ≡ true
+majority-mono xs ys e h most =
+    let k = yes_count-mono xs ys e h in
+    let l = more_than_half xs most in
+    let more : length ys < 2 * yes_count ys = omega arith in
+    grind (arith, nat_tests)
+
 -- what is true in a list with one more true mark
 pub true_in_set : (xs : List Bool) (i r : ℕ) → slice_get (slice_set xs i true) r ≡ Some true → (r ≡ i) ⊎ (slice_get xs r ≡ Some true)
 true_in_set [] i r h = inr h

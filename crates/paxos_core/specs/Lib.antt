@@ -5,3 +5,4 @@ pub mod Majority
 pub mod Proposing
 pub mod World
 pub mod Votes
+pub mod Messages

@@ -25,3 +25,9 @@ module _ {V : Type 0} where
   -- no two proposers of one index have one ballot: at most one event begins each
   abbrev pub HasOwnBallots : List (Event V) → Type 0
   HasOwnBallots events = (i b : ℕ) → count_by (is_begin i b) events ≤ 1
+
+  -- the value can be chosen: by some schedule among three replicas, in which each proposer has a ballot of its own
+  pub record CanChoose (v : V) : Type 0 where
+    pub events : List (Event V)
+    pub own : HasOwnBallots events
+    pub chosen : IsChosen 3 (run 3 events start).votes 0 v

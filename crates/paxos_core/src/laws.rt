@@ -1,12 +1,39 @@
-//! The laws of Paxos, over every schedule.
+//! The laws of Paxos, each the contract of a function that does nothing.
 
-ghost use Rattle.std.specs.Prelude.{◌≡◌, ℕ, List, ◌++◌};
+ghost use Rattle.std.specs.Prelude.{◌≡◌, ℕ, ◌<◌, ◌^◌, List, ◌∷◌, ◌++◌, Some};
+ghost use Rattle.paxos_core.specs.Ballot.{rank};
+ghost use Rattle.paxos_core.specs.Majority.{IsMajority};
+ghost use Rattle.paxos_core.specs.Proposing.{Proposing, begins, stage_of, value_of};
 ghost use Rattle.paxos_core.specs.World.{Event, World, start, run};
-ghost use Rattle.paxos_core.specs.Votes.{IsChosen, HasOwnBallots};
+ghost use Rattle.paxos_core.specs.Votes.{IsChosen, HasOwnBallots, CanChoose};
+ghost use Rattle.paxos_core.specs.Messages.{told_all, HasPromised, IsStage, IsPreferred};
+ghost use Rattle.paxos_core.specs.declared.proposer.Stage.TheVariants.{Chosen};
 
-/// At most one value is chosen at an index, and it stays chosen.
+use crate::ballot::Ballot;
+use crate::message::Message;
+
+/// Whatever is lost, repeated, reordered or restarted, at most one value is chosen at an index, and it
+/// stays chosen, as long as no two proposers of an index share a ballot; and what a proposer calls
+/// chosen is.
 pub fn agreement<V>()
     ensures agree { (n i : ℕ) (x y : V) (events more : List (Event V)) → HasOwnBallots (events ++ more) → IsChosen n (run n events start).votes i x → IsChosen n (run n (events ++ more) start).votes i y → x ≡ y }
     ensures stays { (n i : ℕ) (x : V) (events more : List (Event V)) → IsChosen n (run n events start).votes i x → IsChosen n (run n (events ++ more) start).votes i x }
+    ensures known { (n i b : ℕ) (p : Proposing V) (events : List (Event V)) → HasOwnBallots events → (run n events start).proposers i b ≡ Some p → stage_of p ≡ Chosen → IsChosen n (run n events start).votes i (value_of p) }
+    ensures possible { (v : V) → CanChoose v }
+{
+}
+
+/// How far a proposal is, and what it proposes, after any list of messages, the newest first.
+pub fn proposals<V>()
+    ensures stage { (n i : ℕ) (b : Ballot) (own : V) (messages : List (Message V)) → IsStage n i b messages (stage_of (told_all (begins n i b own) messages)) }
+    // The value up to the majority-th promise: before the last message there was no majority.
+    ensures value { (n i : ℕ) (b : Ballot) (own : V) (last : Message V) (messages : List (Message V)) → (IsMajority n (HasPromised i b messages) → ⊥) → IsPreferred n i b own (last ∷ messages) (value_of (told_all (begins n i b own) (last ∷ messages))) }
+    ensures settled { (n i : ℕ) (b : Ballot) (own : V) (later messages : List (Message V)) → IsMajority n (HasPromised i b messages) → value_of (told_all (begins n i b own) (later ++ messages)) ≡ value_of (told_all (begins n i b own) messages) }
+{
+}
+
+/// Ballots of equal rank are equal: ranks order them all.
+pub fn ranks()
+    ensures { (b c : Ballot) → b.proposer < 2 ^ 32 → c.proposer < 2 ^ 32 → rank b ≡ rank c → b ≡ c }
 {
 }
