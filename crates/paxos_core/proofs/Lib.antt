@@ -9,3 +9,4 @@ pub mod Runs
 pub mod MessagesLemmas
 pub mod Tracking
 pub mod Stages
+pub mod Witness

@@ -9,8 +9,9 @@ use Rattle.paxos_core.specs.declared.message.Message.{Message}
 use Rattle.paxos_core.specs.declared.message.Message.TheVariants.{Ask, Promise, Put, Ack, Nack}
 use Rattle.paxos_core.specs.declared.acceptor.Standing.{Standing}
 use Rattle.paxos_core.specs.Ballot.{rank, is_below}
-use Rattle.paxos_core.specs.Majority.{IsMajority}
-use Rattle.paxos_core.specs.Proposing.{Proposing, begins, is_promised, told}
+use Rattle.paxos_core.specs.declared.proposer.Stage.TheVariants.{Waiting, Promised, Chosen}
+use Rattle.paxos_core.specs.Majority.{is_majority, IsMajority}
+use Rattle.paxos_core.specs.Proposing.{Proposing, begins, is_promised, stage_of, told, value_of}
 use Rattle.paxos_core.specs.World.{Vote, World, Event, Begin, To_acceptor, To_proposer, Propose, Restart, start, with_vote, with_proposer, at_acceptor, at_proposer, put_by, happens, run, is_begin}
 use Rattle.paxos_core.specs.Votes.{HasVote, IsChosen, HasOwnBallots}
 use Rattle.paxos_core.proofs.MajorityLemmas.{meet, IsMajority-map}
@@ -194,3 +195,14 @@ module _ {V : Type 0} where
 
   pub stays : (n i : ℕ) (x : V) (es fs : List (Event V)) → IsChosen n (run n es start).votes i x → IsChosen n (run n (es ++ fs) start).votes i x
   stays n i x es fs h = subst (λ (w : World V). IsChosen n w.votes i x) (sym (run-append n es fs start)) (chosen_stays n i x fs (run n es start) h)
+
+  -- what a proposer calls chosen is chosen
+  pub known : (n i b : ℕ) (p : Proposing V) (es : List (Event V)) → HasOwnBallots es → (run n es start).proposers i b ≡ Some p → stage_of p ≡ Chosen → IsChosen n (run n es start).votes i (value_of p)
+  known n i b p es own there stage = go (is_promised p) (is_majority p.acked) refl refl
+    where
+      go : (t u : Bool) → is_promised p ≡ t → is_majority p.acked ≡ u → IsChosen n (run n es start).votes i (value_of p)
+      go false u e f = let clash : Waiting ≡ Chosen = sym (rw e refl) ∙ stage in absurd (cc)
+      go true false e f = let clash : Promised ≡ Chosen = sym (rw (e, f) refl) ∙ stage in absurd (cc)
+      go true true e f =
+          let k = (ok_from_start n es own).proposers i b p there in
+          (b, record { marks = p.acked; count = k.acked_length; most = f; each = λ r h. (k.acked r h).1 })

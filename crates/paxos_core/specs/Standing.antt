@@ -1,5 +1,5 @@
 -- What an acceptor keeps at an index, what a message makes of it, and what the acceptor answers.
-use Rattle.std.specs.Prelude.{ℕ, ◌==◌, if◌then◌else◌, Option, Some, None}
+use Rattle.std.specs.Prelude.{ℕ, ◌==◌, if◌then◌else◌, Option, Some, None, ⊤}
 use Rattle.paxos_core.specs.declared.ballot.Ballot.{Ballot}
 use Rattle.paxos_core.specs.declared.message.Message.{Message}
 use Rattle.paxos_core.specs.declared.message.Message.TheVariants.{Ask, Promise, Put, Ack, Nack}
@@ -30,6 +30,23 @@ module _ {V : Type 0} where
   -- the standings at all indices, once the message has come: only that at its own index moves
   abbrev pub with_message : (ℕ → Standing V) → Message V → ℕ → Standing V
   with_message standings m i = if i == index_of m then after (standings i) m else standings i
+
+  -- the ballot that an acceptor is asked for: only asks and puts have one
+  abbrev pub asked_of : Message V → Option Ballot
+  asked_of (Ask i b) = Some b
+  asked_of (Put i b v) = Some b
+  asked_of (Promise r i b a) = None
+  asked_of (Ack r i b) = None
+  asked_of (Nack r i b) = None
+
+  -- the answer is a refusal
+  abbrev pub IsNack : Option (Message V) → Type 0
+  IsNack (Some (Nack r i b)) = ⊤
+  IsNack (Some (Ask i b)) = ⊥
+  IsNack (Some (Promise r i b a)) = ⊥
+  IsNack (Some (Put i b v)) = ⊥
+  IsNack (Some (Ack r i b)) = ⊥
+  IsNack None = ⊥
 
   -- what the acceptor of the replica answers, at this standing at the message's index
   abbrev pub reply : ℕ → Standing V → Message V → Option (Message V)

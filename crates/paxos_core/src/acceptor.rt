@@ -1,6 +1,6 @@
 //! The acceptor of one replica.
 
-ghost use Rattle.std.specs.Prelude.{◌≡◌, ◌≢◌, ℕ, IfOk, OnOk, OnErr};
+ghost use Rattle.std.specs.Prelude.{◌≡◌, ◌≢◌, ℕ, ◌<◌, ◌↔◌, if◌then◌else◌, IsNone, IsSomeAnd, IfOk, OnOk, OnErr};
 
 use crate::ballot::Ballot;
 use crate::copies::Copies;
@@ -10,7 +10,7 @@ use std::alloc::Global;
 use std::collections::BTreeMap;
 
 /// What an acceptor keeps at one index.
-#[derive(Debug, Drop)]
+#[derive(Debug, PartialEq, Eq, Drop)]
 pub struct Standing<V> {
     /// The ballot below which it takes part in nothing; round 0 of proposer 0, which is below none,
     /// where it promised nothing.
@@ -27,9 +27,10 @@ pub struct Acceptor<V> {
 }
 
 impl<V: Copies> Acceptor<V> {
-    ghost use Rattle.paxos_core.specs.Standing.{blank, answer, with_message};
+    ghost use Rattle.paxos_core.specs.Standing.{blank, index_of, asked_of, answer, with_message, IsNack};
+    ghost use Rattle.paxos_core.specs.Ballot.{rank, is_below};
     ghost use Rattle.paxos_core.specs.Acceptor.{standing_of, replica_of};
-    ghost use Rattle.paxos_core.specs.declared.message.Message.TheVariants.{Ask, Put};
+    ghost use Rattle.paxos_core.specs.declared.message.Message.TheVariants.{Ask, Put, Nack};
 
     /// An acceptor that promised and accepted nothing. It takes no memory.
     pub fn new(alloc: Global, replica: u32) -> Acceptor<V>
@@ -46,6 +47,9 @@ impl<V: Copies> Acceptor<V> {
     pub fn on_message(&mut self, alloc: Global, message: &Message<V>) -> Result<Option<Message<V>>, NoMemory>
         ensures answer { IfOk result (λ reply. reply ≡ answer (replica_of self.old) (standing_of self.old) message.now) }
         ensures keeps { OnOk result ((i : ℕ) → standing_of self.new i ≡ with_message (standing_of self.old) message.now i) }
+        ensures none { IfOk result (λ reply. IsNone reply ↔ IsNone (asked_of message.now)) }
+        ensures nack { IfOk result (λ reply. IsNack reply ↔ IsSomeAnd (asked_of message.now) (λ ballot. rank ballot < rank (standing_of self.old (index_of message.now)).promised)) }
+
         ensures stays { OnErr result ((i : ℕ) → standing_of self.new i ≡ standing_of self.old i) }
         ensures replica { replica_of self.new ≡ replica_of self.old }
     {
@@ -56,14 +60,22 @@ impl<V: Copies> Acceptor<V> {
         }
     }
 
-    /// What it promised at the index.
-    fn promised(&self, index: u64) -> Ballot
-        ensures { result ≡ (standing_of self.now index).promised }
+    /// The refusal of a ballot at the index, where a higher one was promised.
+    fn refusal(&self, index: u64, ballot: Ballot) -> Option<Message<V>>
+        ensures { let promised = (standing_of self.now index).promised in result ≡ (if is_below ballot promised then Some (Nack (replica_of self.now) index promised) else None) }
     {
-        match self.rows.get(&index) {
+        let promised = match self.rows.get(&index) {
             Some(standing) => standing.promised,
-            None => Ballot { round: 0, proposer: 0 },
+            None => return None,
+        };
+        if promised.rank() <= ballot.rank() {
+            return None;
         }
+        Some(Message::Nack {
+            replica: self.replica,
+            index,
+            promised,
+        })
     }
 
     /// A copy of what it accepted at the index.
@@ -82,19 +94,13 @@ impl<V: Copies> Acceptor<V> {
         ensures stays { OnErr result ((i : ℕ) → standing_of self.new i ≡ standing_of self.old i) }
         ensures replica { replica_of self.new ≡ replica_of self.old }
     {
-        let replica = self.replica;
-        let promised = self.promised(index);
-        if ballot.rank() < promised.rank() {
-            return Ok(Some(Message::Nack {
-                replica,
-                index,
-                promised,
-            }));
+        if let Some(nack) = self.refusal(index, ballot) {
+            return Ok(Some(nack));
         }
         let accepted = self.accepted(alloc, index)?;
         self.promise(index, ballot)?;
         Ok(Some(Message::Promise {
-            replica,
+            replica: self.replica,
             index,
             ballot,
             accepted,
@@ -128,14 +134,8 @@ impl<V: Copies> Acceptor<V> {
         ensures stays { OnErr result ((i : ℕ) → standing_of self.new i ≡ standing_of self.old i) }
         ensures replica { replica_of self.new ≡ replica_of self.old }
     {
-        let replica = self.replica;
-        let promised = self.promised(index);
-        if ballot.rank() < promised.rank() {
-            return Ok(Some(Message::Nack {
-                replica,
-                index,
-                promised,
-            }));
+        if let Some(nack) = self.refusal(index, ballot) {
+            return Ok(Some(nack));
         }
         let kept = value.copy(alloc)?;
         self.rows.insert(
@@ -146,7 +146,7 @@ impl<V: Copies> Acceptor<V> {
             },
         )?;
         Ok(Some(Message::Ack {
-            replica,
+            replica: self.replica,
             index,
             ballot,
         }))

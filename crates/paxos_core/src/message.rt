@@ -3,7 +3,7 @@
 use crate::ballot::Ballot;
 
 /// A message about one index. `Ask` and `Put` are for acceptors, the others are their answers.
-#[derive(Debug, Drop)]
+#[derive(Debug, PartialEq, Eq, Drop)]
 pub enum Message<V> {
     /// Promise to take part in no lower ballot.
     Ask {
