@@ -1,17 +1,16 @@
 -- The machine's step at an acceptor keeps the invariant.
-use Rattle.std.proofs.Common.{◌≡◌, ℕ, ◌<◌, ◌≤◌, Bool, true, false, List, [], ◌∷◌, ◌⊎◌, inl, inr, arith, subst, refl, sym, ◌∙◌, ap, nat_eq}
-use Rattle.std.specs.Prelude.{slice_get, Option, Some, None, ◌==◌, if◌then◌else◌}
+use Rattle.std.proofs.Common.{◌≡◌, ℕ, ◌≤◌, Bool, true, false, ◌∷◌, inl, arith, subst, refl, sym, ◌∙◌, ap}
+use Rattle.std.specs.Prelude.{Option, Some, None, ◌==◌, if◌then◌else◌}
 use Rattle.std.proofs.lemmas.Bool.Decides.{nat_tests}
 use Rattle.paxos_core.specs.declared.ballot.Ballot.{Ballot}
 use Rattle.paxos_core.specs.declared.message.Message.{Message}
 use Rattle.paxos_core.specs.declared.message.Message.TheVariants.{Ask, Promise, Put, Ack, Nack}
-use Rattle.paxos_core.specs.declared.acceptor.Standing.{Standing}
 use Rattle.paxos_core.specs.Ballot.{rank, is_below}
-use Rattle.paxos_core.specs.Standing.{after, index_of, with_message, answer}
-use Rattle.paxos_core.specs.World.{World, Vote, with_answer, with_vote, at_acceptor}
+use Rattle.paxos_core.specs.Standing.{after, index_of}
+use Rattle.paxos_core.specs.World.{World, at_acceptor}
 use Rattle.paxos_core.specs.Votes.{HasVote}
-use Rattle.paxos_core.proofs.Invariant.{floor, Safe, StandingOk, PromiseOk, MessageOk, MessagesOk, IsLater, Ok}
-use Rattle.paxos_core.proofs.Later.{messages_later, message_at, vote_of_later}
+use Rattle.paxos_core.proofs.Invariant.{floor, Safe, PromiseOk, MessageOk, MessagesOk, IsLater, Ok}
+use Rattle.paxos_core.proofs.Later.{messages_later, vote_of_later}
 use Rattle.paxos_core.proofs.AtAcceptor.{Raises, Accepts, vote_of_rises, later_by_raise, later_by_accept, ok_by_raise, ok_by_accept}
 
 pub same_number : (q : ℕ) → (q == q) ≡ true
@@ -52,8 +51,8 @@ module _ {V : Type 0} (n : ℕ) (w : World V) (r : ℕ) (ok : Ok n w) where
       let w' = at_acceptor w r (Some m) in
       let s = w.standings r i in
       ok_by_nothing m (rw e refl) refl
-        (λ later. subst (λ (x : Message V). MessagesOk n w' (x ∷ w.sent)) (sym (ap (λ t. if t then Nack r i s.promised else Promise r i b s.accepted) e))
-          (tt, messages_later n w w' later w.sent ok.messages))
+      (λ later. subst (λ (x : Message V). MessagesOk n w' (x ∷ w.sent)) (sym (ap (λ t. if t then Nack r i s.promised else Promise r i b s.accepted) e))
+      (tt, messages_later n w w' later w.sent ok.messages))
   ok_by_ask i b false e =
       let m : Message V = Ask i b in
       let w' = at_acceptor w r (Some m) in
@@ -66,14 +65,14 @@ module _ {V : Type 0} (n : ℕ) (w : World V) (r : ℕ) (ok : Ok n w) where
       let later = later_by_raise w w' r i step in
       let k = ok.standings r i in
       let promise : PromiseOk w' r i (rank b) s.accepted =
-        record {
-          floors = omega arith;
-          reach = λ c x h lt. k.reach c x h;
-          real = vote_of_rises w' r i (floor w r i) (rank b) s.accepted le (vote_of_later n w w' later r i (floor w r i) s.accepted k.real)
-        } in
+      record {
+        floors = omega arith;
+        reach = λ c x h lt. k.reach c x h;
+        real = vote_of_rises w' r i (floor w r i) (rank b) s.accepted le (vote_of_later n w w' later r i (floor w r i) s.accepted k.real);
+      } in
       ok_by_raise n w w' r i step ok
-        (subst (λ (x : Message V). MessagesOk n w' (x ∷ w.sent)) (sym (ap (λ t. if t then Nack r i s.promised else Promise r i b s.accepted) e))
-          (promise, messages_later n w w' later w.sent ok.messages))
+      (subst (λ (x : Message V). MessagesOk n w' (x ∷ w.sent)) (sym (ap (λ t. if t then Nack r i s.promised else Promise r i b s.accepted) e))
+      (promise, messages_later n w w' later w.sent ok.messages))
 
   pub ok_by_put : (i : ℕ) (b : Ballot) (v : V) → Safe n w i (rank b) v → (t : Bool) → is_below b (w.standings r i).promised ≡ t → Ok n (at_acceptor w r (Some (Put i b v)))
   ok_by_put i b v safe true e =
@@ -81,8 +80,8 @@ module _ {V : Type 0} (n : ℕ) (w : World V) (r : ℕ) (ok : Ok n w) where
       let w' = at_acceptor w r (Some m) in
       let s = w.standings r i in
       ok_by_nothing m (rw e refl) (rw e refl)
-        (λ later. subst (λ (x : Message V). MessagesOk n w' (x ∷ w.sent)) (sym (ap (λ t. if t then Nack r i s.promised else Ack r i b) e))
-          (tt, messages_later n w w' later w.sent ok.messages))
+      (λ later. subst (λ (x : Message V). MessagesOk n w' (x ∷ w.sent)) (sym (ap (λ t. if t then Nack r i s.promised else Ack r i b) e))
+      (tt, messages_later n w w' later w.sent ok.messages))
   ok_by_put i b v safe false e =
       let m : Message V = Put i b v in
       let w' = at_acceptor w r (Some m) in
@@ -93,9 +92,10 @@ module _ {V : Type 0} (n : ℕ) (w : World V) (r : ℕ) (ok : Ok n w) where
       let step : Accepts w w' r i b v = record { allowed = grind (arith, nat_tests); here = here; others = standing_there w r m; proposers = refl; votes = votes } in
       let later = later_by_accept w w' r i b v step in
       ok_by_accept n w w' r i b v step safe ok
-        (subst (λ (x : Message V). MessagesOk n w' (x ∷ w.sent)) (sym (ap (λ t. if t then Nack r i s.promised else Ack r i b) e))
-          ((v, subst (λ votes. HasVote votes r i (rank b) v) (sym votes) (inl (record { replica = refl; index = refl; ballot = refl; value = refl }))),
-           messages_later n w w' later w.sent ok.messages))
+      (subst (λ (x : Message V). MessagesOk n w' (x ∷ w.sent)) (sym (ap (λ t. if t then Nack r i s.promised else Ack r i b) e)) (
+        (v, subst (λ votes. HasVote votes r i (rank b) v) (sym votes) (inl (record { replica = refl; index = refl; ballot = refl; value = refl }))),
+        messages_later n w w' later w.sent ok.messages,
+      ))
 
   -- whatever comes to an acceptor, the invariant stays
   pub ok_at_acceptor : (m : Message V) → MessageOk n w m → Ok n (at_acceptor w r (Some m))

@@ -1,16 +1,14 @@
 -- A message comes to an acceptor: it promises, accepts, or stays as it is.
-use Rattle.std.proofs.Common.{◌≡◌, ℕ, ◌<◌, ◌≤◌, Bool, true, false, List, [], ◌∷◌, ◌⊎◌, inl, inr, arith, subst, refl, sym, ◌∙◌, ap, nat_eq}
-use Rattle.std.specs.Prelude.{slice_get, Option, Some, None, ◌==◌, if◌then◌else◌}
+use Rattle.std.proofs.Common.{◌≡◌, ℕ, ◌≤◌, Bool, true, false, ◌∷◌, ◌⊎◌, inl, inr, arith, subst, refl, sym, ◌∙◌, ap}
+use Rattle.std.specs.Prelude.{Option, Some, None, ◌==◌}
 use Rattle.std.proofs.lemmas.Bool.Decides.{nat_tests}
 use Rattle.paxos_core.specs.declared.ballot.Ballot.{Ballot}
-use Rattle.paxos_core.specs.declared.message.Message.{Message}
-use Rattle.paxos_core.specs.declared.acceptor.Standing.{Standing}
-use Rattle.paxos_core.specs.Ballot.{rank, is_below}
+use Rattle.paxos_core.specs.Ballot.{rank}
 use Rattle.paxos_core.specs.Proposing.{Proposing}
-use Rattle.paxos_core.specs.World.{World, Vote}
-use Rattle.paxos_core.specs.Votes.{HasVote, IsVote}
-use Rattle.paxos_core.proofs.Invariant.{floor, Decided, Safe, Reaches, IsVoteOf, StandingOk, MessageOk, MessagesOk, ProposerOk, IsLater, Ok}
-use Rattle.paxos_core.proofs.Later.{safe_later, messages_later, proposer_later, vote_of_later}
+use Rattle.paxos_core.specs.World.{World}
+use Rattle.paxos_core.specs.Votes.{HasVote}
+use Rattle.paxos_core.proofs.Invariant.{floor, Decided, Safe, Reaches, IsVoteOf, StandingOk, MessagesOk, ProposerOk, IsLater, Ok}
+use Rattle.paxos_core.proofs.Later.{safe_later, proposer_later, vote_of_later}
 
 -- the same place, or another
 pub same_place : (q r j i : ℕ) → ((q ≡ r) × (j ≡ i)) ⊎ (q ≡ r → j ≡ i → ⊥)
@@ -51,11 +49,12 @@ module _ {V : Type 0} (w w' : World V) where
   later_by_raise r i s =
       record {
         floors = λ q j. elim (same_place q r j i) [
-            inl e ↦ subst (λ q. floor w q j ≤ floor w' q j) (sym e.0) (subst (λ j. floor w r j ≤ floor w' r j) (sym e.1) s.floors)
-          | inr other ↦ let k : floor w' q j ≡ floor w q j = ap (λ s. rank s.promised) (s.others q j other) in omega arith ];
+          | inl e ↦ subst (λ q. floor w q j ≤ floor w' q j) (sym e.0) (subst (λ j. floor w r j ≤ floor w' r j) (sym e.1) s.floors)
+          | inr other ↦ let k : floor w' q j ≡ floor w q j = ap (λ s. rank s.promised) (s.others q j other) in omega arith
+        ];
         votes = λ q j c x h. subst (λ votes. HasVote votes q j c x) (sym s.votes) h;
         new = λ q j c x h. inl (subst (λ votes. HasVote votes q j c x) s.votes h);
-        decided = decided_kept s.proposers
+        decided = decided_kept s.proposers;
       }
 
   pub later_by_accept : (r i : ℕ) (b : Ballot) (v : V) → Accepts w w' r i b v → IsLater w w'
@@ -64,15 +63,17 @@ module _ {V : Type 0} (w w' : World V) where
       let allowed : floor w r i ≤ rank b = s.allowed in
       record {
         floors = λ q j. elim (same_place q r j i) [
-            inl e ↦ subst (λ q. floor w q j ≤ floor w' q j) (sym e.0) (subst (λ j. floor w r j ≤ floor w' r j) (sym e.1) (omega arith))
-          | inr other ↦ let k : floor w' q j ≡ floor w q j = ap (λ s. rank s.promised) (s.others q j other) in omega arith ];
+          | inl e ↦ subst (λ q. floor w q j ≤ floor w' q j) (sym e.0) (subst (λ j. floor w r j ≤ floor w' r j) (sym e.1) (omega arith))
+          | inr other ↦ let k : floor w' q j ≡ floor w q j = ap (λ s. rank s.promised) (s.others q j other) in omega arith
+        ];
         votes = λ q j c x h. subst (λ votes. HasVote votes q j c x) (sym s.votes) (inr h);
         new = λ q j c x h.
-          let k : HasVote (record { replica = r; index = i; ballot = b; value = v } ∷ w.votes) q j c x = subst (λ votes. HasVote votes q j c x) s.votes h in
-          elim k [
-            inl is ↦ inr (subst (λ q. floor w q j ≤ c) is.replica (subst (λ j. floor w r j ≤ c) is.index (let f : rank b ≡ c = is.ballot in omega arith)))
-          | inr old ↦ inl old ];
-        decided = decided_kept s.proposers
+            let k : HasVote (record { replica = r; index = i; ballot = b; value = v } ∷ w.votes) q j c x = subst (λ votes. HasVote votes q j c x) s.votes h in
+            elim k [
+              | inl is ↦ inr (subst (λ q. floor w q j ≤ c) is.replica (subst (λ j. floor w r j ≤ c) is.index (let f : rank b ≡ c = is.ballot in omega arith)))
+              | inr old ↦ inl old
+            ];
+        decided = decided_kept s.proposers;
       }
 
   -- a standing elsewhere has its replica's highest vote still
@@ -82,10 +83,10 @@ module _ {V : Type 0} (w w' : World V) where
   standing_elsewhere later q j e old ok =
       let top : floor w q j ≤ floor w' q j = later.floors q j in
       subst (λ s. StandingOk w' q j s.accepted) (sym e)
-        (record {
-          reach = λ c x h. ok.reach c x (old c x h);
-          real = vote_of_rises w' q j (floor w q j) (floor w' q j) (w.standings q j).accepted top (vote_of_later 0 w w' later q j (floor w q j) (w.standings q j).accepted ok.real)
-        })
+      (record {
+        reach = λ c x h. ok.reach c x (old c x h);
+        real = vote_of_rises w' q j (floor w q j) (floor w' q j) (w.standings q j).accepted top (vote_of_later 0 w w' later q j (floor w q j) (w.standings q j).accepted ok.real);
+      })
 
   pub standings_by_raise : (r i : ℕ) → Raises w w' r i → ((q j : ℕ) → StandingOk w q j (w.standings q j).accepted) →
       (q j : ℕ) → StandingOk w' q j (w'.standings q j).accepted
@@ -93,16 +94,17 @@ module _ {V : Type 0} (w w' : World V) where
       let later = later_by_raise r i s in
       let top : floor w q j ≤ floor w' q j = later.floors q j in
       let same : (w'.standings q j).accepted ≡ (w.standings q j).accepted =
-        elim (same_place q r j i) [
-            inl e ↦ subst (λ q. (w'.standings q j).accepted ≡ (w.standings q j).accepted) (sym e.0)
-              (subst (λ j. (w'.standings r j).accepted ≡ (w.standings r j).accepted) (sym e.1) s.accepted)
-          | inr other ↦ ap (λ s. s.accepted) (s.others q j other) ] in
+      elim (same_place q r j i) [
+        | inl e ↦ subst (λ q. (w'.standings q j).accepted ≡ (w.standings q j).accepted) (sym e.0)
+            (subst (λ j. (w'.standings r j).accepted ≡ (w.standings r j).accepted) (sym e.1) s.accepted)
+        | inr other ↦ ap (λ s. s.accepted) (s.others q j other)
+      ] in
       let k = ok q j in
       subst (λ a. StandingOk w' q j a) (sym same)
-        (record {
-          reach = λ c x h. k.reach c x (subst (λ votes. HasVote votes q j c x) s.votes h);
-          real = vote_of_rises w' q j (floor w q j) (floor w' q j) (w.standings q j).accepted top (vote_of_later 0 w w' later q j (floor w q j) (w.standings q j).accepted k.real)
-        })
+      (record {
+        reach = λ c x h. k.reach c x (subst (λ votes. HasVote votes q j c x) s.votes h);
+        real = vote_of_rises w' q j (floor w q j) (floor w' q j) (w.standings q j).accepted top (vote_of_later 0 w w' later q j (floor w q j) (w.standings q j).accepted k.real);
+      })
 
   -- no accepted value of this rank or higher is below what a replica promised
   pub reached : (r i c : ℕ) (accepted : Option (Ballot × V)) → Reaches accepted c → IsVoteOf w r i (floor w r i) accepted → c ≤ floor w r i
@@ -116,22 +118,24 @@ module _ {V : Type 0} (w w' : World V) where
       let here : floor w' r i ≡ rank b = ap (λ s. rank s.promised) s.here in
       let allowed : floor w r i ≤ rank b = s.allowed in
       let split : (c : ℕ) (x : V) → HasVote w'.votes q j c x → HasVote (record { replica = r; index = i; ballot = b; value = v } ∷ w.votes) q j c x =
-        λ c x h. subst (λ votes. HasVote votes q j c x) s.votes h in
+      λ c x h. subst (λ votes. HasVote votes q j c x) s.votes h in
       elim (same_place q r j i) [
-          inl e ↦
+        | inl e ↦
             subst (λ q. StandingOk w' q j (w'.standings q j).accepted) (sym e.0)
-              (subst (λ j. StandingOk w' r j (w'.standings r j).accepted) (sym e.1)
-                (subst (λ t. StandingOk w' r i t.accepted) (sym s.here)
-                  (record {
-                    reach = λ c x h.
-                      let k : HasVote (record { replica = r; index = i; ballot = b; value = v } ∷ w.votes) r i c x = subst (λ votes. HasVote votes r i c x) s.votes h in
-                      elim k [
-                        inl is ↦ let f : rank b ≡ c = is.ballot in omega arith
-                      | inr old ↦ let f = reached r i c (w.standings r i).accepted ((ok r i).reach c x old) (ok r i).real in omega arith ];
-                    real = (subst (λ votes. HasVote votes r i (rank b) v) (sym s.votes) (inl (record { replica = refl; index = refl; ballot = refl; value = refl })), omega arith)
-                  })))
+            (subst (λ j. StandingOk w' r j (w'.standings r j).accepted) (sym e.1)
+            (subst (λ t. StandingOk w' r i t.accepted) (sym s.here)
+            (record {
+              reach = λ c x h.
+                  let k : HasVote (record { replica = r; index = i; ballot = b; value = v } ∷ w.votes) r i c x = subst (λ votes. HasVote votes r i c x) s.votes h in
+                  elim k [
+                    | inl is ↦ let f : rank b ≡ c = is.ballot in omega arith
+                    | inr old ↦ let f = reached r i c (w.standings r i).accepted ((ok r i).reach c x old) (ok r i).real in omega arith
+                  ];
+              real = (subst (λ votes. HasVote votes r i (rank b) v) (sym s.votes) (inl (record { replica = refl; index = refl; ballot = refl; value = refl })), omega arith);
+            })))
         | inr other ↦ standing_elsewhere later q j (s.others q j other)
-            (λ c x h. elim (split c x h) [ inl is ↦ absurd (other (sym is.replica) (sym is.index)) | inr old ↦ old ]) (ok q j) ]
+            (λ c x h. elim (split c x h) [ inl is ↦ absurd (other (sym is.replica) (sym is.index)) | inr old ↦ old ]) (ok q j)
+      ]
 
 module _ {V : Type 0} (n : ℕ) (w w' : World V) where
   pub proposers_later : IsLater w w' → w'.proposers ≡ w.proposers →
@@ -146,7 +150,7 @@ module _ {V : Type 0} (n : ℕ) (w w' : World V) where
         standings = standings_by_raise w w' r i s ok.standings;
         messages = messages;
         voted = λ q j c x h. safe_later n w w' later j c x (ok.voted q j c x (subst (λ votes. HasVote votes q j c x) s.votes h));
-        proposers = proposers_later later s.proposers ok.proposers
+        proposers = proposers_later later s.proposers ok.proposers;
       }
 
   pub ok_by_accept : (r i : ℕ) (b : Ballot) (v : V) → Accepts w w' r i b v → Safe n w i (rank b) v → Ok n w → MessagesOk n w' w'.sent → Ok n w'
@@ -156,10 +160,11 @@ module _ {V : Type 0} (n : ℕ) (w w' : World V) where
         standings = standings_by_accept w w' r i b v s ok.standings;
         messages = messages;
         voted = λ q j c x h.
-          let k : HasVote (record { replica = r; index = i; ballot = b; value = v } ∷ w.votes) q j c x = subst (λ votes. HasVote votes q j c x) s.votes h in
-          safe_later n w w' later j c x
+            let k : HasVote (record { replica = r; index = i; ballot = b; value = v } ∷ w.votes) q j c x = subst (λ votes. HasVote votes q j c x) s.votes h in
+            safe_later n w w' later j c x
             (elim k [
-              inl is ↦ subst (λ j. Safe n w j c x) is.index (subst (λ c. Safe n w i c x) is.ballot (subst (λ x. Safe n w i (rank b) x) is.value safe))
-            | inr old ↦ ok.voted q j c x old ]);
-        proposers = proposers_later later s.proposers ok.proposers
+              | inl is ↦ subst (λ j. Safe n w j c x) is.index (subst (λ c. Safe n w i c x) is.ballot (subst (λ x. Safe n w i (rank b) x) is.value safe))
+              | inr old ↦ ok.voted q j c x old
+            ]);
+        proposers = proposers_later later s.proposers ok.proposers;
       }

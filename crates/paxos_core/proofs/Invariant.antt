@@ -1,14 +1,13 @@
 -- What holds of every world that can be reached, in parts.
-use Rattle.std.proofs.Common.{◌≡◌, ℕ, ◌<◌, ◌≤◌, Bool, true, List, [], ◌∷◌, length, ◌⊎◌}
+use Rattle.std.proofs.Common.{◌≡◌, ℕ, ◌<◌, ◌≤◌, true, List, [], ◌∷◌, length, ◌⊎◌}
 use Rattle.std.specs.Prelude.{slice_get, Option, Some, None}
 use Rattle.paxos_core.specs.declared.ballot.Ballot.{Ballot}
 use Rattle.paxos_core.specs.declared.message.Message.{Message}
 use Rattle.paxos_core.specs.declared.message.Message.TheVariants.{Ask, Promise, Put, Ack, Nack}
-use Rattle.paxos_core.specs.declared.acceptor.Standing.{Standing}
 use Rattle.paxos_core.specs.Ballot.{rank}
 use Rattle.paxos_core.specs.Majority.{IsMajority}
 use Rattle.paxos_core.specs.Proposing.{Proposing, is_promised, value_of}
-use Rattle.paxos_core.specs.World.{World, Vote}
+use Rattle.paxos_core.specs.World.{World}
 use Rattle.paxos_core.specs.Votes.{HasVote}
 
 module _ {V : Type 0} where

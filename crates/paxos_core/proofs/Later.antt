@@ -1,16 +1,15 @@
 -- Every part of the invariant is carried along to a later world.
-use Rattle.std.proofs.Common.{◌≡◌, ℕ, zero, suc, ◌<◌, ◌≤◌, true, List, [], ◌∷◌, ◌⊎◌, inl, inr, arith, subst}
+use Rattle.std.proofs.Common.{◌≡◌, ℕ, zero, suc, ◌<◌, ◌≤◌, List, [], ◌∷◌, inl, inr, arith, subst}
 use Rattle.std.specs.Prelude.{slice_get, Option, Some, None}
 use Rattle.paxos_core.specs.declared.ballot.Ballot.{Ballot}
 use Rattle.paxos_core.specs.declared.message.Message.{Message}
 use Rattle.paxos_core.specs.declared.message.Message.TheVariants.{Ask, Promise, Put, Ack, Nack}
 use Rattle.paxos_core.specs.Ballot.{rank}
-use Rattle.paxos_core.specs.Majority.{IsMajority}
 use Rattle.paxos_core.specs.Proposing.{Proposing}
 use Rattle.paxos_core.specs.World.{World}
 use Rattle.paxos_core.specs.Votes.{HasVote}
 use Rattle.paxos_core.proofs.MajorityLemmas.{IsMajority-map}
-use Rattle.paxos_core.proofs.Invariant.{floor, Choosable, Decided, Safe, Reaches, IsVoteOf, IsSomeVote, StandingOk, PromiseOk, MessageOk, MessagesOk, ProposerOk, IsLater}
+use Rattle.paxos_core.proofs.Invariant.{floor, Choosable, Safe, IsVoteOf, IsSomeVote, PromiseOk, MessageOk, MessagesOk, ProposerOk, IsLater}
 
 module _ {V : Type 0} (n : ℕ) (w w' : World V) (later : IsLater w w') where
   -- a vote below what the replica had promised is not new
@@ -20,14 +19,14 @@ module _ {V : Type 0} (n : ℕ) (w w' : World V) (later : IsLater w w') where
   pub choosable_before : (i c : ℕ) (x : V) → Choosable n w' i c x → Choosable n w i c x
   choosable_before i c x =
       IsMajority-map n (λ r h.
-        let floors : floor w r i ≤ floor w' r i = later.floors r i in
-        elim h [ inl vote ↦ later.new r i c x vote | inr le ↦ inr (omega arith) ])
+      let floors : floor w r i ≤ floor w' r i = later.floors r i in
+      elim h [ inl vote ↦ later.new r i c x vote | inr le ↦ inr (omega arith) ])
 
   pub safe_later : (i b : ℕ) (v : V) → Safe n w i b v → Safe n w' i b v
   safe_later i b v s =
       record {
         decided = later.decided i b v s.decided;
-        only = λ c x lt may. s.only c x lt (choosable_before i c x may)
+        only = λ c x lt may. s.only c x lt (choosable_before i c x may);
       }
 
   pub vote_of_later : (r i top : ℕ) (accepted : Option (Ballot × V)) → IsVoteOf w r i top accepted → IsVoteOf w' r i top accepted
@@ -45,7 +44,7 @@ module _ {V : Type 0} (n : ℕ) (w w' : World V) (later : IsLater w w') where
       record {
         floors = omega arith;
         reach = λ c x h lt. ok.reach c x (old_vote r i c x h (omega arith)) lt;
-        real = vote_of_later r i b accepted ok.real
+        real = vote_of_later r i b accepted ok.real;
       }
 
   pub message_later : (m : Message V) → MessageOk n w m → MessageOk n w' m
@@ -69,7 +68,7 @@ module _ {V : Type 0} (n : ℕ) (w w' : World V) (later : IsLater w w') where
         floors = λ r h. let floors : floor w r i ≤ floor w' r i = later.floors r i in let k = ok.floors r h in omega arith;
         reach = λ r c x heard vote lt. let k = ok.floors r heard in ok.reach r c x heard (old_vote r i c x vote (omega arith)) lt;
         real = some_vote_later i b p.best ok.real;
-        acked = λ r h. let k = ok.acked r h in (k.0, later.votes r i b _ k.1)
+        acked = λ r h. let k = ok.acked r h in (k.0, later.votes r i b _ k.1);
       }
 
 -- what is true of all messages is true of the one at a place

@@ -1,22 +1,16 @@
 -- A proposer follows the messages: what it heard, the best value, and what was acked.
-use Rattle.std.proofs.Common.{◌≡◌, ℕ, zero, suc, ◌<◌, ◌≤◌, ◌*◌, Bool, true, false, not, ◌&&◌, ◌||◌, List, [], ◌∷◌, ◌++◌, length, ◌⊎◌, inl, inr, arith, subst, refl, sym, ◌∙◌, ap, replicate}
-use Rattle.std.specs.Prelude.{slice_get, slice_set, slice_index_or, Option, Some, None, is_some, IsSome, ◌==◌, if◌then◌else◌}
-use Rattle.std.specs.List.{list_any}
+use Rattle.std.proofs.Common.{◌≡◌, ℕ, zero, suc, ◌<◌, ◌≤◌, Bool, true, false, not, ◌&&◌, List, [], ◌∷◌, ◌++◌, length, ◌⊎◌, inl, inr, arith, subst, refl, sym, ◌∙◌, ap}
+use Rattle.std.specs.Prelude.{slice_get, slice_set, slice_index_or, Option, Some, None, is_some, if◌then◌else◌}
 use Rattle.std.proofs.lemmas.Bool.Decides.{nat_tests}
-use Rattle.std.proofs.lemmas.List.{length-set, length-replicate}
+use Rattle.std.proofs.lemmas.List.{length-set}
 use Rattle.paxos_core.specs.declared.ballot.Ballot.{Ballot}
 use Rattle.paxos_core.specs.declared.message.Message.{Message}
 use Rattle.paxos_core.specs.declared.message.Message.TheVariants.{Ask, Promise, Put, Ack, Nack}
-use Rattle.paxos_core.specs.declared.proposer.Stage.{Stage}
-use Rattle.paxos_core.specs.declared.proposer.Stage.TheVariants.{Waiting, Promised, Chosen}
 use Rattle.paxos_core.specs.Ballot.{rank, is_below}
-use Rattle.paxos_core.specs.Majority.{is_majority, IsMajority}
-use Rattle.paxos_core.specs.Proposing.{Proposing, begins, is_promised, is_for, is_new, better, told, stage_of, preferred, value_of}
-use Rattle.paxos_core.specs.Messages.{told_all, carried, first_of, first_carried, HasPromised, is_ack, HasAcked, IsAcked, IsStage, IsHighest, CarriesNone, IsPreferred}
-use Rattle.paxos_core.proofs.MajorityLemmas.{IsMajority-map, majority-mono}
+use Rattle.paxos_core.specs.Proposing.{Proposing, begins, is_promised, is_for, is_new, better, told, value_of}
+use Rattle.paxos_core.specs.Messages.{told_all}
 use Rattle.paxos_core.proofs.AtAcceptor.{same_place}
-use Rattle.paxos_core.proofs.Acceptance.{same_number}
-use Rattle.paxos_core.proofs.ProposingLemmas.{and_true, not_true, is_for_means, promised_stays}
+use Rattle.paxos_core.proofs.ProposingLemmas.{promised_stays}
 
 -- what no message changes
 pub record IsKept {V : Type 0} (p p' : Proposing V) : Type 0 where
@@ -93,36 +87,55 @@ module _ {V : Type 0} (n : ℕ) where
     -- a replica that carries a value now did so before, or is the new one
     pub new_or_old : (r : ℕ) (c : Ballot) (x : V) → G r ≡ Some (Some (c, x)) → (a ≡ Some (c, x)) ⊎ (F r ≡ Some (Some (c, x)))
     new_or_old r c x k = elim (same_place r q 0 0) [
-        inl e ↦ let here : Some a ≡ Some (Some (c, x)) = sym s.here ∙ subst (λ r. G r ≡ Some (Some (c, x))) e.0 k in inl (cc)
-      | inr other ↦ inr (sym (s.others r (λ e. other e refl)) ∙ k) ]
+      | inl e ↦ let here : Some a ≡ Some (Some (c, x)) = sym s.here ∙ subst (λ r. G r ≡ Some (Some (c, x))) e.0 k in inl (cc)
+      | inr other ↦ inr (sym (s.others r (λ e. other e refl)) ∙ k)
+    ]
 
     -- one that carried a value does still
     pub still : (r : ℕ) (y : Ballot × V) → F r ≡ Some (Some y) → G r ≡ Some (Some y)
     still r y k = elim (same_place r q 0 0) [
-        inl e ↦ let clash : None ≡ Some (Some y) = sym s.none ∙ subst (λ r. F r ≡ Some (Some y)) e.0 k in absurd (cc)
-      | inr other ↦ s.others r (λ e. other e refl) ∙ k ]
+      | inl e ↦ let clash : None ≡ Some (Some y) = sym s.none ∙ subst (λ r. F r ≡ Some (Some y)) e.0 k in absurd (cc)
+      | inr other ↦ s.others r (λ e. other e refl) ∙ k
+    ]
 
   pub best_next : (F G : ℕ → Option (Option (Ballot × V))) (q : ℕ) (a best : Option (Ballot × V)) → IsAdded F G q a → IsBest F best → IsBest G (better best a)
   best_next F G q None None s h = λ r c x lt k. elim (new_or_old F G q None s r c x k) [ inl e ↦ cc | inr old ↦ h r c x lt old ]
   best_next F G q None (Some y) s h =
       (h.0, h.1, still F G q None s h.0 y h.2, λ r c x lt k. elim (new_or_old F G q None s r c x k) [ inl e ↦ absurd (cc) | inr old ↦ h.3 r c x lt old ])
-  best_next F G q (Some z) None s h =
-      (q, s.below, s.here, λ r c x lt k. elim (new_or_old F G q (Some z) s r c x k) [
-          inl e ↦ let same : z ≡ (c, x) = cc in let f : rank z.0 ≡ rank c = ap (λ y. rank y.0) same in omega arith
-        | inr old ↦ absurd (h r c x lt old) ])
+  best_next F G q (Some z) None s h = (
+    q,
+    s.below,
+    s.here,
+    λ r c x lt k. elim (new_or_old F G q (Some z) s r c x k) [
+      | inl e ↦ let same : z ≡ (c, x) = cc in let f : rank z.0 ≡ rank c = ap (λ y. rank y.0) same in omega arith
+      | inr old ↦ absurd (h r c x lt old)
+    ],
+  )
   best_next F G q (Some z) (Some y) s h = go (is_below y.0 z.0) refl
     where
       go : (t : Bool) → is_below y.0 z.0 ≡ t → IsBest G (if is_below y.0 z.0 then Some z else Some y)
       go true e =
           let lt : rank y.0 < rank z.0 = grind (arith, nat_tests) in
-          rw e (q, s.below, s.here, λ r c x in_n k. elim (new_or_old F G q (Some z) s r c x k) [
-              inl e ↦ let same : z ≡ (c, x) = cc in let f : rank z.0 ≡ rank c = ap (λ y. rank y.0) same in omega arith
-            | inr old ↦ let top = h.3 r c x in_n old in omega arith ])
+          rw e (
+            q,
+            s.below,
+            s.here,
+            λ r c x in_n k. elim (new_or_old F G q (Some z) s r c x k) [
+              | inl e ↦ let same : z ≡ (c, x) = cc in let f : rank z.0 ≡ rank c = ap (λ y. rank y.0) same in omega arith
+              | inr old ↦ let top = h.3 r c x in_n old in omega arith
+            ],
+          )
       go false e =
           let le : rank z.0 ≤ rank y.0 = grind (arith, nat_tests) in
-          rw e (h.0, h.1, still F G q (Some z) s h.0 y h.2, λ r c x in_n k. elim (new_or_old F G q (Some z) s r c x k) [
-              inl e ↦ let same : z ≡ (c, x) = cc in let f : rank z.0 ≡ rank c = ap (λ y. rank y.0) same in omega arith
-            | inr old ↦ h.3 r c x in_n old ])
+          rw e (
+            h.0,
+            h.1,
+            still F G q (Some z) s h.0 y h.2,
+            λ r c x in_n k. elim (new_or_old F G q (Some z) s r c x k) [
+              | inl e ↦ let same : z ≡ (c, x) = cc in let f : rank z.0 ≡ rank c = ap (λ y. rank y.0) same in omega arith
+              | inr old ↦ h.3 r c x in_n old
+            ],
+          )
 
 -- a mark that is set, and the others
 pub mark_here : (xs : List Bool) (q : ℕ) → q < length xs → slice_get (slice_set xs q true) q ≡ Some true

@@ -1,5 +1,5 @@
 -- Whole schedules.
-use Rattle.std.proofs.Common.{◌≡◌, ℕ, ◌+◌, ◌<◌, ◌≤◌, Bool, true, false, cond, ◌&&◌, List, [], ◌∷◌, ◌++◌, ◌⊎◌, inl, inr, arith, subst, refl, sym, ◌∙◌, ap}
+use Rattle.std.proofs.Common.{◌≡◌, ℕ, ◌+◌, ◌<◌, ◌≤◌, Bool, true, false, cond, List, [], ◌∷◌, ◌++◌, ◌⊎◌, inl, inr, arith, subst, refl, sym, ◌∙◌, ap}
 use Rattle.std.specs.Prelude.{slice_get, Option, Some, None, ◌==◌, nat_lt, if◌then◌else◌}
 use Rattle.std.specs.List.{count_by}
 use Rattle.std.proofs.lemmas.Bool.Decides.{nat_tests}
@@ -12,10 +12,10 @@ use Rattle.paxos_core.specs.Ballot.{rank, is_below}
 use Rattle.paxos_core.specs.declared.proposer.Stage.TheVariants.{Waiting, Promised, Chosen}
 use Rattle.paxos_core.specs.Majority.{is_majority, IsMajority}
 use Rattle.paxos_core.specs.Proposing.{Proposing, begins, is_promised, stage_of, told, value_of}
-use Rattle.paxos_core.specs.World.{Vote, World, Event, Begin, To_acceptor, To_proposer, Propose, Restart, start, with_vote, with_proposer, at_acceptor, at_proposer, put_by, happens, run, is_begin}
-use Rattle.paxos_core.specs.Votes.{HasVote, IsChosen, HasOwnBallots}
+use Rattle.paxos_core.specs.World.{Vote, World, Event, Begin, To_acceptor, To_proposer, Propose, Restart, start, with_vote, at_acceptor, at_proposer, put_by, happens, run, is_begin}
+use Rattle.paxos_core.specs.Votes.{HasVote, IsChosen, HasOwnBallots, IsHighestVote}
 use Rattle.paxos_core.proofs.MajorityLemmas.{meet, IsMajority-map}
-use Rattle.paxos_core.proofs.Invariant.{Safe, Ok}
+use Rattle.paxos_core.proofs.Invariant.{floor, Reaches, IsVoteOf, StandingOk, Ok}
 use Rattle.paxos_core.proofs.Later.{message_at}
 use Rattle.paxos_core.proofs.AtAcceptor.{same_place}
 use Rattle.paxos_core.proofs.Acceptance.{same_number, ok_comes}
@@ -86,10 +86,11 @@ module _ {V : Type 0} where
   free_at_proposer w i b (Some p) there None j c free = free
   free_at_proposer w i b (Some p) there (Some m) j c free =
       elim (same_place j i c b) [
-          inl e ↦
+        | inl e ↦
             let free' : w.proposers i b ≡ None = subst (λ j. w.proposers j b ≡ None) e.0 (subst (λ c. w.proposers j c ≡ None) e.1 free) in
             let clash : Some p ≡ None = sym there ∙ free' in absurd (cc)
-        | inr other ↦ proposer_there w.proposers i b (told p m) j c other ∙ free ]
+        | inr other ↦ proposer_there w.proposers i b (told p m) j c other ∙ free
+      ]
 
   pub free_put_by : (w : World V) (o : Option (Proposing V)) (j c : ℕ) → w.proposers j c ≡ None → (put_by w o).proposers j c ≡ None
   free_put_by w None j c free = free
@@ -119,8 +120,9 @@ module _ {V : Type 0} where
       record {
         own = λ i b. let k = ready.own i b in omega (arith, fewer i b e es);
         free = λ i b. elim (ready.free i b) [
-            inl free ↦ next e i b free (ready.own i b)
-          | inr none ↦ inr (omega (arith, fewer i b e es)) ]
+          | inl free ↦ next e i b free (ready.own i b)
+          | inr none ↦ inr (omega (arith, fewer i b e es))
+        ];
       }
     where
       next : (e : Event V) (i b : ℕ) → w.proposers i b ≡ None → count_by (is_begin i b) (e ∷ es) ≤ 1 → ((happens n w e).proposers i b ≡ None) ⊎ (count_by (is_begin i b) es ≡ 0)
@@ -130,14 +132,15 @@ module _ {V : Type 0} where
       next (Restart r) i b free own = inl free
       next (Begin j c v) i b free own =
           elim (same_place i j b (rank c)) [
-              inl e ↦
+            | inl e ↦
                 let one : (is_begin i b (Begin j c v)) ≡ true =
-                  subst (λ i. is_begin i b (Begin j c v) ≡ true) (sym e.0) (subst (λ b. is_begin j b (Begin j c v) ≡ true) (sym e.1)
-                    (let x = same_number j in let y = same_number (rank c) in rw (x, y) refl)) in
+                subst (λ i. is_begin i b (Begin j c v) ≡ true) (sym e.0) (subst (λ b. is_begin j b (Begin j c v) ≡ true) (sym e.1)
+                (let x = same_number j in let y = same_number (rank c) in rw (x, y) refl)) in
                 let step : count_by (is_begin i b) (Begin j c v ∷ es) ≡ 1 + count_by (is_begin i b) es =
-                  count-cons i b (Begin j c v) es ∙ ap (λ t. cond t 1 0 + count_by (is_begin i b) es) one in
+                count-cons i b (Begin j c v) es ∙ ap (λ t. cond t 1 0 + count_by (is_begin i b) es) one in
                 inr (omega arith)
-            | inr other ↦ inl (proposer_there w.proposers j (rank c) (begins n j c v) i b other ∙ free) ]
+            | inr other ↦ inl (proposer_there w.proposers j (rank c) (begins n j c v) i b other ∙ free)
+          ]
 
   -- the invariant over one step, and over a whole schedule
   pub ok_next : (n : ℕ) (w : World V) (e : Event V) (es : List (Event V)) → IsReady w (e ∷ es) → Ok n w → Ok n (happens n w e)
@@ -148,12 +151,13 @@ module _ {V : Type 0} where
   ok_next n w (Restart r) es ready ok = ok
   ok_next n w (Begin i b v) es ready ok =
       elim (ready.free i (rank b)) [
-          inl free ↦ ok_begin n w ok i b v free
+        | inl free ↦ ok_begin n w ok i b v free
         | inr none ↦
-          let one : (is_begin i (rank b) (Begin i b v)) ≡ true = (let x = same_number i in let y = same_number (rank b) in rw (x, y) refl) in
-          let step : count_by (is_begin i (rank b)) (Begin i b v ∷ es) ≡ 1 + count_by (is_begin i (rank b)) es =
+            let one : (is_begin i (rank b) (Begin i b v)) ≡ true = (let x = same_number i in let y = same_number (rank b) in rw (x, y) refl) in
+            let step : count_by (is_begin i (rank b)) (Begin i b v ∷ es) ≡ 1 + count_by (is_begin i (rank b)) es =
             count-cons i (rank b) (Begin i b v) es ∙ ap (λ t. cond t 1 0 + count_by (is_begin i (rank b)) es) one in
-          absurd (omega arith) ]
+            absurd (omega arith)
+      ]
 
   pub ok_run : (n : ℕ) (es : List (Event V)) (w : World V) → IsReady w es → Ok n w → Ok n (run n es w)
   ok_run n [] w ready ok = ok
@@ -165,7 +169,7 @@ module _ {V : Type 0} where
         standings = λ r i. record { reach = λ c x h. h; real = tt };
         messages = tt;
         voted = λ r i c x h. absurd h;
-        proposers = λ i b p there. absurd (cc)
+        proposers = λ i b p there. absurd (cc);
       }
 
   pub ok_from_start : (n : ℕ) (es : List (Event V)) → HasOwnBallots es → Ok n (run n es start)
@@ -174,13 +178,15 @@ module _ {V : Type 0} where
   -- two chosen values are equal
   pub agree_at : (n : ℕ) (w : World V) → Ok n w → (i : ℕ) (x y : V) → IsChosen n w.votes i x → IsChosen n w.votes i y → x ≡ y
   agree_at n w ok i x y h k = elim (compared h.0 k.0) [
-        inl e ↦
-          let late : IsMajority n (λ r. HasVote w.votes r i h.0 y) = subst (λ b. IsMajority n (λ r. HasVote w.votes r i b y)) (sym e) k.1 in
-          let both = meet n h.1 late in
-          votes_agree n w ok both.0 both.0 i h.0 x y both.1 both.2
-      | inr apart ↦ elim apart [
-            inl lt ↦ below h.0 k.0 x y lt h.1 k.1
-          | inr gt ↦ sym (below k.0 h.0 y x gt k.1 h.1) ] ]
+    | inl e ↦
+        let late : IsMajority n (λ r. HasVote w.votes r i h.0 y) = subst (λ b. IsMajority n (λ r. HasVote w.votes r i b y)) (sym e) k.1 in
+        let both = meet n h.1 late in
+        votes_agree n w ok both.0 both.0 i h.0 x y both.1 both.2
+    | inr apart ↦ elim apart [
+      | inl lt ↦ below h.0 k.0 x y lt h.1 k.1
+      | inr gt ↦ sym (below k.0 h.0 y x gt k.1 h.1)
+    ]
+  ]
     where
       below : (b c : ℕ) (x y : V) → b < c → IsMajority n (λ r. HasVote w.votes r i b x) → IsMajority n (λ r. HasVote w.votes r i c y) → x ≡ y
       below b c x y lt early late =
@@ -190,7 +196,7 @@ module _ {V : Type 0} where
   pub agree : (n i : ℕ) (x y : V) (es fs : List (Event V)) → HasOwnBallots (es ++ fs) → IsChosen n (run n es start).votes i x → IsChosen n (run n (es ++ fs) start).votes i y → x ≡ y
   agree n i x y es fs own h k =
       let later : IsChosen n (run n (es ++ fs) start).votes i x =
-        subst (λ (w : World V). IsChosen n w.votes i x) (sym (run-append n es fs start)) (chosen_stays n i x fs (run n es start) h) in
+      subst (λ (w : World V). IsChosen n w.votes i x) (sym (run-append n es fs start)) (chosen_stays n i x fs (run n es start) h) in
       agree_at n (run n (es ++ fs) start) (ok_from_start n (es ++ fs) own) i x y later k
 
   pub stays : (n i : ℕ) (x : V) (es fs : List (Event V)) → IsChosen n (run n es start).votes i x → IsChosen n (run n (es ++ fs) start).votes i x
@@ -206,3 +212,14 @@ module _ {V : Type 0} where
       go true true e f =
           let k = (ok_from_start n es own).proposers i b p there in
           (b, record { marks = p.acked; count = k.acked_length; most = f; each = λ r h. (k.acked r h).1 })
+
+  -- what a replica keeps is its highest vote
+  pub kept : (n r i : ℕ) (es : List (Event V)) → HasOwnBallots es → IsHighestVote (run n es start).votes r i ((run n es start).standings r i).accepted
+  kept n r i es own = highest (run n es start) (floor (run n es start) r i) ((run n es start).standings r i).accepted k.reach k.real
+    where
+      k : StandingOk (run n es start) r i ((run n es start).standings r i).accepted
+      k = (ok_from_start n es own).standings r i
+
+      highest : (w : World V) (top : ℕ) (accepted : Option (Ballot × V)) → ((c : ℕ) (x : V) → HasVote w.votes r i c x → Reaches accepted c) → IsVoteOf w r i top accepted → IsHighestVote w.votes r i accepted
+      highest w top None reach real = reach
+      highest w top (Some y) reach real = (real.0, reach)

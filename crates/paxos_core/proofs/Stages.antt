@@ -1,22 +1,20 @@
 -- How far a proposal is, and what it proposes, after a whole list of messages.
-use Rattle.std.proofs.Common.{◌≡◌, ℕ, zero, suc, ◌<◌, ◌≤◌, Bool, true, false, not, ◌&&◌, ◌||◌, List, [], ◌∷◌, ◌++◌, length, ◌⊎◌, inl, inr, arith, subst, refl, sym, ◌∙◌, ap, replicate}
-use Rattle.std.specs.Prelude.{slice_get, slice_set, Option, Some, None, is_some, IsSome, ◌==◌, if◌then◌else◌}
+use Rattle.std.proofs.Common.{◌≡◌, ℕ, zero, suc, ◌<◌, Bool, true, false, not, ◌&&◌, ◌||◌, List, [], ◌∷◌, ◌++◌, length, ◌⊎◌, inl, inr, arith, subst, refl, sym, ◌∙◌, ap, replicate}
+use Rattle.std.specs.Prelude.{slice_get, slice_set, Option, Some, None, is_some, IsSome, ◌==◌}
 use Rattle.std.specs.List.{list_any}
 use Rattle.std.proofs.lemmas.Option.{slice_get_within}
 use Rattle.paxos_core.specs.declared.ballot.Ballot.{Ballot}
 use Rattle.paxos_core.specs.declared.message.Message.{Message}
 use Rattle.paxos_core.specs.declared.message.Message.TheVariants.{Ask, Promise, Put, Ack, Nack}
-use Rattle.paxos_core.specs.declared.proposer.Stage.{Stage}
-use Rattle.paxos_core.specs.declared.proposer.Stage.TheVariants.{Waiting, Promised, Chosen}
 use Rattle.paxos_core.specs.Ballot.{rank}
 use Rattle.paxos_core.specs.Majority.{is_majority, IsMajority}
 use Rattle.paxos_core.specs.Proposing.{Proposing, begins, is_promised, is_for, is_new, told, stage_of, preferred, value_of}
-use Rattle.paxos_core.specs.Messages.{told_all, first_of, first_carried, carried, HasPromised, is_ack, HasAcked, IsAcked, IsStage, IsHighest, CarriesNone, IsPreferred}
+use Rattle.paxos_core.specs.Messages.{first_of, first_carried, carried, HasPromised, is_ack, HasAcked, IsAcked, IsStage, IsPreferred}
 use Rattle.paxos_core.proofs.MajorityLemmas.{IsMajority-map, majority-mono, none_at_first, true_in_set}
 use Rattle.paxos_core.proofs.AtAcceptor.{same_place}
 use Rattle.paxos_core.proofs.Acceptance.{same_number}
 use Rattle.paxos_core.proofs.ProposingLemmas.{and_true, is_for_means, promised_stays}
-use Rattle.paxos_core.proofs.MessagesLemmas.{all_stay, state, state_kept, IsBest, IsTracked, mark_here, mark_there}
+use Rattle.paxos_core.proofs.MessagesLemmas.{all_stay, state_kept, IsBest, IsTracked, mark_here, mark_there}
 use Rattle.paxos_core.proofs.Tracking.{same_number_means, at, promises, index_is, ballot_is, heard_length, acked_length, is_for-is, tracked_next}
 
 pub false_at : (n r : ℕ) → r < n → slice_get (replicate n false) r ≡ Some false
@@ -61,10 +59,10 @@ module _ {V : Type 0} (n i : ℕ) (b : Ballot) (own : V) where
             count = len;
             most = e;
             each = λ r h.
-              let within = slice_get_within (at n i b own (m ∷ ms)).heard r true h in
-              let both : Some (is_some (promises n i b own (m ∷ ms) r)) ≡ Some true = sym (t.heard r (omega arith)) ∙ h in
-              let there : is_some (promises n i b own (m ∷ ms) r) ≡ true = cc in
-              there
+                let within = slice_get_within (at n i b own (m ∷ ms)).heard r true h in
+                let both : Some (is_some (promises n i b own (m ∷ ms) r)) ≡ Some true = sym (t.heard r (omega arith)) ∙ h in
+                let there : is_some (promises n i b own (m ∷ ms) r) ≡ true = cc in
+                there;
           }
 
   pub promised_from : (ms : List (Message V)) → IsMajority n (HasPromised i b ms) → is_promised (at n i b own ms) ≡ true
@@ -75,11 +73,11 @@ module _ {V : Type 0} (n i : ℕ) (b : Ballot) (own : V) where
       go false e =
           let t = tracked_while ms e in
           majority-mono most.marks (at n i b own ms).heard (most.count ∙ sym (heard_length n i b own ms))
-            (λ r h.
-              let within = slice_get_within most.marks r true h in
-              let len = most.count in
-              t.heard r (omega arith) ∙ ap (λ x. Some x) (most.each r h))
-            most.most
+          (λ r h.
+          let within = slice_get_within most.marks r true h in
+          let len = most.count in
+          t.heard r (omega arith) ∙ ap (λ x. Some x) (most.each r h))
+          most.most
 
   -- the value
   pub preferred_is : (ms : List (Message V)) (mine : V) → mine ≡ own → (best : Option (Ballot × V)) → IsBest n (promises n i b own ms) best → IsPreferred n i b own ms (preferred mine best)
@@ -118,9 +116,10 @@ module _ {V : Type 0} where
       go : (t : Bool) → (is_for p j c && is_promised p) ≡ t → slice_get (told p (Ack q j c)).acked r ≡ Some true
       go true e =
           rw e (elim (same_place r q 0 0) [
-              inl same ↦ subst (λ x. slice_get (slice_set p.acked q true) x ≡ Some true) (sym same.0)
+            | inl same ↦ subst (λ x. slice_get (slice_set p.acked q true) x ≡ Some true) (sym same.0)
                 (mark_here p.acked q (subst (λ x. x < length p.acked) same.0 (slice_get_within p.acked r true h)))
-            | inr other ↦ mark_there p.acked q r (λ e. other e refl) ∙ h ])
+            | inr other ↦ mark_there p.acked q r (λ e. other e refl) ∙ h
+          ])
       go false e = rw e h
 
   -- while it waits, no ack counts
@@ -165,8 +164,9 @@ module _ {V : Type 0} (n i : ℕ) (b : Ballot) (own : V) where
           let mine = is_for_means (at n i b own ms) j c parts.0 in
           let set : slice_get (slice_set (at n i b own ms).acked q true) r ≡ Some true = rw e at h in
           elim (true_in_set (at n i b own ms).acked q r set) [
-              inl same ↦ inl (is_ack_here q r j c (mine.0 ∙ index_is n i b own ms) (mine.1 ∙ ap (λ b. rank b) (ballot_is n i b own ms)) same)
-            | inr old ↦ inr old ]
+            | inl same ↦ inl (is_ack_here q r j c (mine.0 ∙ index_is n i b own ms) (mine.1 ∙ ap (λ b. rank b) (ballot_is n i b own ms)) same)
+            | inr old ↦ inr old
+          ]
       go false e = inr (rw e at h)
 
   -- an ack to a promised proposer is marked
@@ -188,8 +188,9 @@ module _ {V : Type 0} (n i : ℕ) (b : Ballot) (own : V) where
   acks_mark [] ms e r lt h = cc
   acks_mark (m ∷ later) ms e r lt h =
       elim (or_true (is_ack i b r m) (list_any (is_ack i b r) later) h) [
-          inl now ↦ ack_marks (later ++ ms) m r lt (all_stay (begins n i b own) later ms e).0 now
-        | inr before ↦ acked_stays (at n i b own (later ++ ms)) m r (acks_mark later ms e r lt before) ]
+        | inl now ↦ ack_marks (later ++ ms) m r lt (all_stay (begins n i b own) later ms e).0 now
+        | inr before ↦ acked_stays (at n i b own (later ++ ms)) m r (acks_mark later ms e r lt before)
+      ]
 
   -- where the marks come from: none before a majority promised, and acks after that
   pub record IsSplit (ms : List (Message V)) : Type 0 where
@@ -212,16 +213,18 @@ module _ {V : Type 0} (n i : ℕ) (b : Ballot) (own : V) where
   pub marks_come : (ms : List (Message V)) → Unacked ms ⊎ IsSplit ms
   marks_come [] = split_or_not [] (λ r h. none_at_first n r h)
   marks_come (m ∷ ms) = elim (marks_come ms) [
-        inl k ↦ split_or_not (m ∷ ms) (λ r h. k.1 r (subst (λ xs. slice_get xs r ≡ Some true) (acked_waits (at n i b own ms) m k.0) h))
-      | inr s ↦ inr (record {
-          later = m ∷ s.later;
-          earlier = s.earlier;
-          split = ap (λ ms. m ∷ ms) s.split;
-          promised = s.promised;
-          acks = λ r h. elim (acked_new ms m r h) [
-              inl now ↦ ap (λ t. t || list_any (is_ack i b r) s.later) now
-            | inr old ↦ ap (λ t. is_ack i b r m || t) (s.acks r old) ∙ or_right (is_ack i b r m) ]
-        }) ]
+    | inl k ↦ split_or_not (m ∷ ms) (λ r h. k.1 r (subst (λ xs. slice_get xs r ≡ Some true) (acked_waits (at n i b own ms) m k.0) h))
+    | inr s ↦ inr (record {
+      later = m ∷ s.later;
+      earlier = s.earlier;
+      split = ap (λ ms. m ∷ ms) s.split;
+      promised = s.promised;
+      acks = λ r h. elim (acked_new ms m r h) [
+        | inl now ↦ ap (λ t. t || list_any (is_ack i b r) s.later) now
+        | inr old ↦ ap (λ t. is_ack i b r m || t) (s.acks r old) ∙ or_right (is_ack i b r m)
+      ];
+    })
+  ]
 
   -- acked by a majority, exactly where a majority of marks is set
   pub acked_from : (ms : List (Message V)) → IsAcked n i b ms → (is_promised (at n i b own ms) ≡ true) × (is_majority (at n i b own ms).acked ≡ true)
@@ -230,24 +233,25 @@ module _ {V : Type 0} (n i : ℕ) (b : Ballot) (own : V) where
       let x = (all_stay (begins n i b own) k.later k.earlier e).0 in
       let most = k.acks in
       let y : is_majority (at n i b own (k.later ++ k.earlier)).acked ≡ true =
-        majority-mono most.marks (at n i b own (k.later ++ k.earlier)).acked (most.count ∙ sym (acked_length n i b own (k.later ++ k.earlier)))
-          (λ r h.
-            let within = slice_get_within most.marks r true h in
-            let len = most.count in
-            acks_mark k.later k.earlier e r (omega arith) (most.each r h))
-          most.most in
+      majority-mono most.marks (at n i b own (k.later ++ k.earlier)).acked (most.count ∙ sym (acked_length n i b own (k.later ++ k.earlier)))
+      (λ r h.
+      let within = slice_get_within most.marks r true h in
+      let len = most.count in
+      acks_mark k.later k.earlier e r (omega arith) (most.each r h))
+      most.most in
       (subst (λ ms. is_promised (at n i b own ms) ≡ true) k.split x, subst (λ ms. is_majority (at n i b own ms).acked ≡ true) k.split y)
 
   pub acked_means : (ms : List (Message V)) → is_promised (at n i b own ms) ≡ true → is_majority (at n i b own ms).acked ≡ true → IsAcked n i b ms
   acked_means ms e most = elim (marks_come ms) [
-        inl k ↦ let clash : true ≡ false = sym e ∙ k.0 in absurd (cc)
-      | inr s ↦ record {
-          later = s.later;
-          earlier = s.earlier;
-          split = s.split;
-          promises = promised_means n i b own s.earlier s.promised;
-          acks = record { marks = (at n i b own ms).acked; count = acked_length n i b own ms; most = most; each = s.acks }
-        } ]
+    | inl k ↦ let clash : true ≡ false = sym e ∙ k.0 in absurd (cc)
+    | inr s ↦ record {
+      later = s.later;
+      earlier = s.earlier;
+      split = s.split;
+      promises = promised_means n i b own s.earlier s.promised;
+      acks = record { marks = (at n i b own ms).acked; count = acked_length n i b own ms; most = most; each = s.acks };
+    }
+  ]
 
   -- how far the proposal is
   pub stage_is : (ms : List (Message V)) → IsStage n i b ms (stage_of (at n i b own ms))

@@ -1,21 +1,18 @@
 -- A proposer follows its messages, whole lists of them.
-use Rattle.std.proofs.Common.{◌≡◌, ℕ, ◌<◌, ◌≤◌, Bool, true, false, not, ◌&&◌, ◌||◌, List, [], ◌∷◌, ◌++◌, length, ◌⊎◌, inl, inr, arith, subst, refl, sym, ◌∙◌, ap, replicate}
-use Rattle.std.specs.Prelude.{slice_get, slice_set, slice_index_or, Option, Some, None, is_some, IsSome, ◌==◌, if◌then◌else◌}
-use Rattle.std.specs.List.{list_any}
+use Rattle.std.proofs.Common.{◌≡◌, ℕ, ◌<◌, Bool, true, false, not, ◌&&◌, List, ◌∷◌, length, inl, inr, arith, subst, refl, sym, ◌∙◌, ap}
+use Rattle.std.specs.Prelude.{slice_get, slice_set, slice_index_or, Option, Some, None, is_some, ◌==◌}
 use Rattle.std.proofs.lemmas.Bool.Decides.{nat_tests}
-use Rattle.std.proofs.lemmas.List.{length-set, length-replicate}
+use Rattle.std.proofs.lemmas.List.{length-replicate}
 use Rattle.paxos_core.specs.declared.ballot.Ballot.{Ballot}
 use Rattle.paxos_core.specs.declared.message.Message.{Message}
 use Rattle.paxos_core.specs.declared.message.Message.TheVariants.{Ask, Promise, Put, Ack, Nack}
 use Rattle.paxos_core.specs.Ballot.{rank}
-use Rattle.paxos_core.specs.Majority.{is_majority, IsMajority}
-use Rattle.paxos_core.specs.Proposing.{Proposing, begins, is_promised, is_for, is_new, better, told, preferred, value_of}
-use Rattle.paxos_core.specs.Messages.{told_all, carried, first_of, first_carried, HasPromised, IsHighest, CarriesNone, IsPreferred}
-use Rattle.paxos_core.proofs.MajorityLemmas.{IsMajority-map, majority-mono, none_at_first}
+use Rattle.paxos_core.specs.Proposing.{Proposing, is_promised, is_for, is_new, told}
+use Rattle.paxos_core.specs.Messages.{carried, first_of, first_carried}
 use Rattle.paxos_core.proofs.AtAcceptor.{same_place}
 use Rattle.paxos_core.proofs.Acceptance.{same_number}
-use Rattle.paxos_core.proofs.ProposingLemmas.{and_true, not_true, is_for_means, promised_stays}
-use Rattle.paxos_core.proofs.MessagesLemmas.{IsKept, told_keeps, state, state_kept, IsBest, IsTracked, tracked-cong, IsAdded, best_next, mark_here, mark_there, unmarked, marked, not_is, is_none_of}
+use Rattle.paxos_core.proofs.ProposingLemmas.{and_true, not_true, is_for_means}
+use Rattle.paxos_core.proofs.MessagesLemmas.{state, state_kept, IsTracked, tracked-cong, IsAdded, best_next, mark_here, mark_there, unmarked, marked, not_is, is_none_of}
 
 pub first_of-None : {X : Type 0} (o : Option X) → first_of o None ≡ o
 first_of-None None = refl
@@ -94,7 +91,7 @@ module _ {V : Type 0} (n i : ℕ) (b : Ballot) (own : V) where
   tracked_next ms (Ack q j c) waits t =
       let unmoved : told (at ms) (Ack q j c) ≡ at ms = let no_more = and_false (is_for (at ms) j c) in rw (waits, no_more) refl in
       subst (λ p. IsTracked n (promises (Ack q j c ∷ ms)) p) (sym unmoved)
-        (tracked-cong n (promises ms) (promises (Ack q j c ∷ ms)) (λ r lt. first_of-None (promises ms r)) (at ms) t)
+      (tracked-cong n (promises ms) (promises (Ack q j c ∷ ms)) (λ r lt. first_of-None (promises ms r)) (at ms) t)
   tracked_next ms (Promise q j c a) waits t = go (is_for (at ms) j c && (is_new (at ms) q && not (is_promised (at ms)))) refl
     where
       go : (u : Bool) → (is_for (at ms) j c && (is_new (at ms) q && not (is_promised (at ms)))) ≡ u → IsTracked n (promises (Promise q j c a ∷ ms)) (told (at ms) (Promise q j c a))
@@ -113,20 +110,21 @@ module _ {V : Type 0} (n i : ℕ) (b : Ballot) (own : V) where
           let none : promises ms q ≡ None = is_none_of (promises ms q) unheard in
           let carries = carried_here i b q j c a at_index at_ballot in
           let added : IsAdded n (promises ms) (promises (Promise q j c a ∷ ms)) q a =
-            record {
-              below = below;
-              none = none;
-              here = ap (λ o. first_of o (carried i b q (Promise q j c a))) none ∙ carries;
-              others = λ r ne. ap (λ o. first_of (promises ms r) o) (carried_there i b q j c a r ne) ∙ first_of-None (promises ms r)
-            } in
+          record {
+            below = below;
+            none = none;
+            here = ap (λ o. first_of o (carried i b q (Promise q j c a))) none ∙ carries;
+            others = λ r ne. ap (λ o. first_of (promises ms r) o) (carried_there i b q j c a r ne) ∙ first_of-None (promises ms r);
+          } in
           rw e
-            (record {
-              heard = λ r lt. elim (same_place r q 0 0) [
-                  inl same ↦ subst (λ r. slice_get (slice_set (at ms).heard q true) r ≡ Some (is_some (promises (Promise q j c a ∷ ms) r))) (sym same.0)
-                    (mark_here (at ms).heard q in_marks ∙ ap (λ o. Some (is_some o)) (sym added.here))
-                | inr other ↦ mark_there (at ms).heard q r (λ e. other e refl) ∙ t.heard r lt ∙ ap (λ o. Some (is_some o)) (sym (added.others r (λ e. other e refl))) ];
-              best = best_next n (promises ms) (promises (Promise q j c a ∷ ms)) q a (at ms).best added t.best
-            })
+          (record {
+            heard = λ r lt. elim (same_place r q 0 0) [
+              | inl same ↦ subst (λ r. slice_get (slice_set (at ms).heard q true) r ≡ Some (is_some (promises (Promise q j c a ∷ ms) r))) (sym same.0)
+                  (mark_here (at ms).heard q in_marks ∙ ap (λ o. Some (is_some o)) (sym added.here))
+              | inr other ↦ mark_there (at ms).heard q r (λ e. other e refl) ∙ t.heard r lt ∙ ap (λ o. Some (is_some o)) (sym (added.others r (λ e. other e refl)))
+            ];
+            best = best_next n (promises ms) (promises (Promise q j c a ∷ ms)) q a (at ms).best added t.best;
+          })
       go false e =
           rw e (tracked-cong n (promises ms) (promises (Promise q j c a ∷ ms)) (λ r lt. unmoved r lt (is_for (at ms) j c) refl) (at ms) t)
         where
@@ -136,7 +134,7 @@ module _ {V : Type 0} (n i : ℕ) (b : Ballot) (own : V) where
               ap (λ o. first_of (promises ms r) o) nowhere ∙ first_of-None (promises ms r)
           unmoved r lt true f =
               elim (same_place r q 0 0) [
-                  inl same ↦
+                | inl same ↦
                     let old : is_new (at ms) q ≡ false = heard_before (is_new (at ms) q) refl f in
                     let len = heard_length ms in
                     let eq : r ≡ q = same.0 in
@@ -145,7 +143,8 @@ module _ {V : Type 0} (n i : ℕ) (b : Ballot) (own : V) where
                     let both : Some (is_some (promises ms q)) ≡ Some true = sym (t.heard q (omega arith)) ∙ mark in
                     let there : is_some (promises ms q) ≡ true = cc in
                     first_of-some (promises ms r) (carried i b r (Promise q j c a)) (subst (λ r. is_some (promises ms r) ≡ true) (sym eq) there)
-                | inr other ↦ ap (λ o. first_of (promises ms r) o) (carried_there i b q j c a r (λ e. other e refl)) ∙ first_of-None (promises ms r) ]
+                | inr other ↦ ap (λ o. first_of (promises ms r) o) (carried_there i b q j c a r (λ e. other e refl)) ∙ first_of-None (promises ms r)
+              ]
             where
               heard_before : (x : Bool) → is_new (at ms) q ≡ x → is_for (at ms) j c ≡ true → is_new (at ms) q ≡ false
               heard_before false g f = g

@@ -14,14 +14,14 @@ module _ {V : Type 0} (v : V) where
   abbrev pub schedule : List (Event V)
   schedule =
       Begin 0 first_ballot v
-        ∷ To_acceptor 0 0
-        ∷ To_acceptor 1 1
-        ∷ To_proposer 0 first_ballot 0
-        ∷ To_proposer 0 first_ballot 1
-        ∷ Propose 0 first_ballot
-        ∷ To_acceptor 0 0
-        ∷ To_acceptor 1 1
-        ∷ []
+      ∷ To_acceptor 0 0
+      ∷ To_acceptor 1 1
+      ∷ To_proposer 0 first_ballot 0
+      ∷ To_proposer 0 first_ballot 1
+      ∷ Propose 0 first_ballot
+      ∷ To_acceptor 0 0
+      ∷ To_acceptor 1 1
+      ∷ []
 
   pub schedule_own : HasOwnBallots schedule
   schedule_own i b = go (is_begin i b (Begin 0 first_ballot v))
@@ -41,5 +41,5 @@ module _ {V : Type 0} (v : V) where
       record {
         events = schedule;
         own = schedule_own;
-        chosen = (rank first_ballot, record { marks = true ∷ true ∷ false ∷ []; count = refl; most = refl; each = schedule_voted })
+        chosen = (rank first_ballot, record { marks = true ∷ true ∷ false ∷ []; count = refl; most = refl; each = schedule_voted });
       }

@@ -1,5 +1,5 @@
 -- Majorities of replicas, which are numbered from 0 up to their count.
-use Rattle.std.specs.Prelude.{◌≡◌, ℕ, ◌*◌, ◌<◌, Bool, true, List, length, nat_lt, slice_get, Some}
+use Rattle.std.specs.Prelude.{◌≡◌, ℕ, ◌*◌, Bool, true, List, length, nat_lt, slice_get, Some}
 use Rattle.std.specs.Prelude.{count_by}
 
 -- whether more than half of the marks are true

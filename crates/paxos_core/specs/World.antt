@@ -1,11 +1,11 @@
 -- Everyone at once: a machine whose steps are what may happen next, by the very words that the handlers keep.
-use Rattle.std.specs.Prelude.{◌≡◌, ℕ, Bool, true, false, ◌&&◌, ◌==◌, if◌then◌else◌, List, [], ◌∷◌, ◌++◌, Option, Some, None, slice_get}
+use Rattle.std.specs.Prelude.{ℕ, Bool, false, ◌&&◌, ◌==◌, if◌then◌else◌, List, [], ◌∷◌, Option, Some, None, slice_get}
 use Rattle.paxos_core.specs.declared.ballot.Ballot.{Ballot}
 use Rattle.paxos_core.specs.declared.message.Message.{Message}
 use Rattle.paxos_core.specs.declared.message.Message.TheVariants.{Ask, Promise, Put, Ack, Nack}
 use Rattle.paxos_core.specs.declared.acceptor.Standing.{Standing}
 use Rattle.paxos_core.specs.Ballot.{rank, is_below}
-use Rattle.paxos_core.specs.Standing.{blank, index_of, with_message, answer}
+use Rattle.paxos_core.specs.Standing.{blank, with_message, answer}
 use Rattle.paxos_core.specs.Proposing.{Proposing, begins, told, is_promised, value_of}
 
 -- a replica accepted this value at this index, under this ballot
@@ -64,7 +64,7 @@ module _ {V : Type 0} where
         standings = λ q. if q == r then with_message (w.standings r) m else w.standings q;
         proposers = w.proposers;
         sent = with_answer (answer r (w.standings r) m) w.sent;
-        votes = with_vote r (w.standings r) m w.votes
+        votes = with_vote r (w.standings r) m w.votes;
       }
 
   -- the proposers, with this one at its index and rank

@@ -1,6 +1,6 @@
 //! The acceptor of one replica.
 
-ghost use Rattle.std.specs.Prelude.{◌≡◌, ◌≢◌, ℕ, ◌<◌, ◌↔◌, if◌then◌else◌, IsNone, IsSomeAnd, IfOk, OnOk, OnErr};
+ghost use Rattle.std.specs.Prelude.{◌≡◌, ◌≢◌, ℕ, ◌<◌, ◌↔◌, if◌then◌else◌, IsNone, IsSomeAnd, MatchOption, IfOk, OnOk, OnErr};
 
 use crate::ballot::Ballot;
 use crate::copies::Copies;
@@ -44,30 +44,44 @@ impl<V: Copies> Acceptor<V> {
     }
 
     /// Takes a message, and answers it.
-    pub fn on_message(&mut self, alloc: Global, message: &Message<V>) -> Result<Option<Message<V>>, NoMemory>
+    pub fn on_message(
+        &mut self,
+        alloc: Global,
+        message: &Message<V>,
+    ) -> Result<Option<Message<V>>, NoMemory>
         ensures answer { IfOk result (λ reply. reply ≡ answer (replica_of self.old) (standing_of self.old) message.now) }
-        ensures keeps { OnOk result ((i : ℕ) → standing_of self.new i ≡ with_message (standing_of self.old) message.now i) }
         ensures none { IfOk result (λ reply. IsNone reply ↔ IsNone (asked_of message.now)) }
-        ensures nack { IfOk result (λ reply. IsNack reply ↔ IsSomeAnd (asked_of message.now) (λ ballot. rank ballot < rank (standing_of self.old (index_of message.now)).promised)) }
+        ensures nack { let promised = (standing_of self.old (index_of message.now)).promised in
+            IfOk result (λ reply. IsNack reply ↔ IsSomeAnd (asked_of message.now) (λ ballot. rank ballot < rank promised)) }
 
+        ensures keeps { OnOk result ((i : ℕ) → standing_of self.new i ≡ with_message (standing_of self.old) message.now i) }
         ensures stays { OnErr result ((i : ℕ) → standing_of self.new i ≡ standing_of self.old i) }
         ensures replica { replica_of self.new ≡ replica_of self.old }
     {
         match message {
             Message::Ask { index, ballot } => self.on_ask(alloc, *index, *ballot),
-            Message::Put { index, ballot, value } => self.on_put(alloc, *index, *ballot, value),
+            Message::Put {
+                index,
+                ballot,
+                value,
+            } => self.on_put(alloc, *index, *ballot, value),
             _ => Ok(None),
         }
     }
 
+    /// What it keeps at the index, or `None` where it promised and accepted nothing there.
+    pub fn standing(&self, index: u64) -> Option<&Standing<V>>
+        ensures { MatchOption result (standing_of self.now index ≡ blank) (λ standing. standing.now ≡ standing_of self.now index) }
+    {
+        self.rows.get(&index)
+    }
+
     /// The refusal of a ballot at the index, where a higher one was promised.
     fn refusal(&self, index: u64, ballot: Ballot) -> Option<Message<V>>
-        ensures { let promised = (standing_of self.now index).promised in result ≡ (if is_below ballot promised then Some (Nack (replica_of self.now) index promised) else None) }
+        ensures { let promised = (standing_of self.now index).promised in
+            result ≡ (if is_below ballot promised then Some (Nack (replica_of self.now) index promised) else None) }
     {
-        let promised = match self.rows.get(&index) {
-            Some(standing) => standing.promised,
-            None => return None,
-        };
+        let promised = self.standing(index)?.promised;
         if promised.rank() <= ballot.rank() {
             return None;
         }
@@ -82,13 +96,18 @@ impl<V: Copies> Acceptor<V> {
     fn accepted(&self, alloc: Global, index: u64) -> Result<Option<(Ballot, V)>, NoMemory>
         ensures { IfOk result (λ accepted. accepted ≡ (standing_of self.now index).accepted) }
     {
-        match self.rows.get(&index) {
+        match self.standing(index) {
             Some(standing) => copy_of(alloc, &standing.accepted),
             None => Ok(None),
         }
     }
 
-    fn on_ask(&mut self, alloc: Global, index: u64, ballot: Ballot) -> Result<Option<Message<V>>, NoMemory>
+    fn on_ask(
+        &mut self,
+        alloc: Global,
+        index: u64,
+        ballot: Ballot,
+    ) -> Result<Option<Message<V>>, NoMemory>
         ensures answer { IfOk result (λ reply. reply ≡ answer (replica_of self.old) (standing_of self.old) (Ask index ballot)) }
         ensures keeps { OnOk result ((i : ℕ) → standing_of self.new i ≡ with_message (standing_of self.old) (Ask index ballot) i) }
         ensures stays { OnErr result ((i : ℕ) → standing_of self.new i ≡ standing_of self.old i) }
@@ -128,7 +147,13 @@ impl<V: Copies> Acceptor<V> {
         Ok(())
     }
 
-    fn on_put(&mut self, alloc: Global, index: u64, ballot: Ballot, value: &V) -> Result<Option<Message<V>>, NoMemory>
+    fn on_put(
+        &mut self,
+        alloc: Global,
+        index: u64,
+        ballot: Ballot,
+        value: &V,
+    ) -> Result<Option<Message<V>>, NoMemory>
         ensures answer { IfOk result (λ reply. reply ≡ answer (replica_of self.old) (standing_of self.old) (Put index ballot value.now)) }
         ensures keeps { OnOk result ((i : ℕ) → standing_of self.new i ≡ with_message (standing_of self.old) (Put index ballot value.now) i) }
         ensures stays { OnErr result ((i : ℕ) → standing_of self.new i ≡ standing_of self.old i) }
@@ -154,7 +179,10 @@ impl<V: Copies> Acceptor<V> {
 }
 
 /// A copy of an accepted value.
-pub(crate) fn copy_of<V: Copies>(alloc: Global, accepted: &Option<(Ballot, V)>) -> Result<Option<(Ballot, V)>, NoMemory>
+pub(crate) fn copy_of<V: Copies>(
+    alloc: Global,
+    accepted: &Option<(Ballot, V)>,
+) -> Result<Option<(Ballot, V)>, NoMemory>
     ensures { IfOk result (λ copy. copy ≡ accepted.now) }
 {
     match accepted {

@@ -45,7 +45,13 @@ impl<V> Model for Proposer<V> {
 
 impl<V: Copies> Proposer<V> {
     /// A proposer that heard nothing yet. Its `Ask` is for its user to send.
-    pub fn new(alloc: Global, index: u64, ballot: Ballot, replicas: u32, value: V) -> Result<Proposer<V>, NoMemory>
+    pub fn new(
+        alloc: Global,
+        index: u64,
+        ballot: Ballot,
+        replicas: u32,
+        value: V,
+    ) -> Result<Proposer<V>, NoMemory>
         ensures { IfOk result (λ proposer. proposer ≡ begins replicas index ballot value) }
     {
         let heard = vec![in alloc; false; replicas as usize]?;
@@ -60,7 +66,8 @@ impl<V: Copies> Proposer<V> {
         })
     }
 
-    /// Takes a message, and says how far the proposal is.
+    /// Takes a message, and says how far the proposal is. Only a promise or an ack of its own index and
+    /// ballot tells it anything.
     pub fn on_message(&mut self, alloc: Global, message: &Message<V>) -> Result<Stage, NoMemory>
         ensures told { OnOk result (self.new ≡ told self.old message.now) }
         ensures stage { IfOk result (λ stage. stage ≡ stage_of self.new) }
@@ -94,7 +101,7 @@ impl<V: Copies> Proposer<V> {
     }
 
     /// How far the proposal is.
-    pub fn stage(&self) -> Stage
+    fn stage(&self) -> Stage
         ensures { result ≡ stage_of self.now }
     {
         if !is_majority(&self.heard) {
@@ -106,12 +113,23 @@ impl<V: Copies> Proposer<V> {
         }
     }
 
-    fn on_promise(&mut self, alloc: Global, replica: u32, index: u64, ballot: Ballot, accepted: &Option<(Ballot, V)>) -> Result<(), NoMemory>
+    fn on_promise(
+        &mut self,
+        alloc: Global,
+        replica: u32,
+        index: u64,
+        ballot: Ballot,
+        accepted: &Option<(Ballot, V)>,
+    ) -> Result<(), NoMemory>
         ensures told { OnOk result (self.new ≡ told self.old (Promise replica index ballot accepted.now)) }
         ensures stays { OnErr result (self.new ≡ self.old) }
     {
         let is_heard = self.heard.get(replica as usize).copied().unwrap_or(true);
-        if index != self.index || ballot.rank() != self.ballot.rank() || is_heard || is_majority(&self.heard) {
+        if index != self.index
+            || ballot.rank() != self.ballot.rank()
+            || is_heard
+            || is_majority(&self.heard)
+        {
             return Ok(());
         }
         if is_better(accepted, &self.best) {

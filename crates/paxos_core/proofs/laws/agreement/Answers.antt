@@ -1,4 +1,4 @@
-use Rattle.paxos_core.proofs.Runs.{agree, stays, known}
+use Rattle.paxos_core.proofs.Runs.{agree, stays, known, kept}
 use Rattle.paxos_core.proofs.Witness.{can_choose}
 use Rattle.paxos_core.proofs.laws.agreement.Goals as goal
 
@@ -13,3 +13,6 @@ returns-clause-known g c n i b p events own there stage = known n i b p events o
 
 pub returns-clause-possible : goal.returns-clause-possible
 returns-clause-possible g c v = can_choose v
+
+pub returns-clause-kept : goal.returns-clause-kept
+returns-clause-kept g c n r i events own = kept n r i events own

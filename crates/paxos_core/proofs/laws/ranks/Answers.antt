@@ -1,4 +1,4 @@
-use Rattle.std.proofs.Common.{◌≡◌, ◌+◌, ◌*◌, ◌^◌, ◌<◌, arith, ap, ◌∙◌, ℕ}
+use Rattle.std.proofs.Common.{◌≡◌, arith, ap, ◌∙◌, ℕ}
 use Rattle.paxos_core.specs.declared.ballot.Ballot.{Ballot}
 use Rattle.paxos_core.proofs.laws.ranks.Goals as goal
 
