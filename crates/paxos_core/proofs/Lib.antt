@@ -1,0 +1,12 @@
+pub mod MajorityLemmas
+pub mod Invariant
+pub mod Later
+pub mod AtAcceptor
+pub mod Acceptance
+pub mod ProposingLemmas
+pub mod AtProposer
+pub mod Runs
+pub mod MessagesLemmas
+pub mod Tracking
+pub mod Stages
+pub mod Witness
