@@ -48,18 +48,12 @@ pub fn put_truth(out: &mut Vec<u8>, v: bool) -> Result<(), NoMemory>
 /// Adds fixed-length opaque data, and zeros as its padding.
 #[tactic(auto, unfolding(xdr_grammar::specs::Items::fixed))]
 pub fn put_fixed(out: &mut Vec<u8>, part: &[u8]) -> Result<(), NoMemory>
-    ensures ok {
-        OnOk result (out.new.items ≡ out.old.items ++ (fixed (length part.now)).spelling part.now)
-    }
-    ensures len {
-        OnOk result (
-          vec_len out.new ≡ vec_len out.old + (length part.now + padding_of (length part.now)))
-    }
+    ensures ok { OnOk result (out.new.items ≡ out.old.items ++ (fixed (length part.now)).spelling part.now) }
+    ensures len { OnOk result (
+        vec_len out.new ≡ vec_len out.old + (length part.now + padding_of (length part.now))) }
     ensures err { OnErr result (out.new.items ≡ out.old.items) }
-    ensures room {
-        vec_len out.old + (length part.now + padding_of (length part.now)) ≤ vec_capacity out.old
-        → IsOk result
-    }
+    ensures room { vec_len out.old + (length part.now + padding_of (length part.now)) ≤ vec_capacity out.old
+        → IsOk result }
     ensures capacity { vec_capacity out.old ≤ vec_capacity out.new }
 {
     let zeros = zeros(part.len());
@@ -73,20 +67,14 @@ pub fn put_fixed(out: &mut Vec<u8>, part: &[u8]) -> Result<(), NoMemory>
 #[tactic(auto, unfolding(xdr_grammar::specs::Items::opaque))]
 pub fn put_opaque(out: &mut Vec<u8>, part: &[u8]) -> Result<(), NoMemory>
     requires { length part.now < 2 ^ 32 }
-    ensures ok {
-        OnOk result (
-          (max : ℕ) → out.new.items ≡ out.old.items ++ (opaque max).spelling part.now)
-    }
-    ensures len {
-        OnOk result (
-          vec_len out.new ≡ vec_len out.old + (4 + (length part.now + padding_of (length part.now))))
-    }
+    ensures ok { OnOk result (
+        (max : ℕ) → out.new.items ≡ out.old.items ++ (opaque max).spelling part.now) }
+    ensures len { OnOk result (
+        vec_len out.new ≡ vec_len out.old + (4 + (length part.now + padding_of (length part.now)))) }
     ensures err { OnErr result (out.new.items ≡ out.old.items) }
-    ensures room {
-        vec_len out.old + (4 + (length part.now + padding_of (length part.now)))
+    ensures room { vec_len out.old + (4 + (length part.now + padding_of (length part.now)))
         ≤ vec_capacity out.old
-        → IsOk result
-    }
+        → IsOk result }
     ensures capacity { vec_capacity out.old ≤ vec_capacity out.new }
 {
     out.reserve(4 + part.len() + padding(part.len()))?;

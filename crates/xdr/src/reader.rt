@@ -111,9 +111,7 @@ impl<'a> Reader<'a> {
     pub fn pick(&mut self, low: u32, high: u32) -> Result<u32, XdrFault>
         ensures gives { Gives (pick low high) (λ n. n) self.old self.new result }
         ensures short { (result ≡ Err XdrFault.Short) ↔ (length self.old < 4) }
-        ensures bad_enum {
-            (result ≡ Err XdrFault.BadEnum) ↔ FrontWord (λ n _. (n < low) ⊎ (high < n)) self.old
-        }
+        ensures bad_enum { (result ≡ Err XdrFault.BadEnum) ↔ FrontWord (λ n _. (n < low) ⊎ (high < n)) self.old }
         ensures at_least { IfOk result (λ n. low ≤ n) }
         ensures at_most { IfOk result (λ n. n ≤ high) }
         ensures takes { OnOk result (length self.old ≡ length self.new + 4) }
@@ -152,17 +150,13 @@ impl<'a> Reader<'a> {
         ensures gives { Gives (opaque max) (λ part. part.now) self.old self.new result }
         ensures too_long { (result ≡ Err XdrFault.TooLong) ↔ FrontWord (λ n _. max < n) self.old }
         // The length word is missing, or the content or its padding behind a length that is allowed.
-        ensures short {
-            (result ≡ Err XdrFault.Short)
+        ensures short { (result ≡ Err XdrFault.Short)
             ↔ ((length self.old < 4)
-              ⊎ FrontWord (λ n rest. (n ≤ max) × (length rest < n + padding_of n)) self.old)
-        }
+            ⊎ FrontWord (λ n rest. (n ≤ max) × (length rest < n + padding_of n)) self.old) }
         ensures len { IfOk result (λ part. length part.now ≤ max) }
-        ensures takes {
-            IfOk result (λ part.
-              length self.old
-              ≡ length self.new + (4 + (length part.now + padding_of (length part.now))))
-        }
+        ensures takes { IfOk result (λ part.
+            length self.old
+            ≡ length self.new + (4 + (length part.now + padding_of (length part.now)))) }
         ensures stays { OnErr result (self.new ≡ self.old) }
     {
         let mut ahead = Reader::new(self.rest());
