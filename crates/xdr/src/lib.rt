@@ -12,3 +12,6 @@ mod reader;
 
 pub use put::{put_fixed, put_hyper, put_opaque, put_truth, put_word};
 pub use reader::Reader;
+
+#[cfg(test)]
+mod tests;

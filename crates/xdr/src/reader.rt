@@ -111,7 +111,8 @@ impl<'a> Reader<'a> {
     pub fn pick(&mut self, low: u32, high: u32) -> Result<u32, XdrFault>
         ensures gives { Gives (pick low high) (λ n. n) self.old self.new result }
         ensures short { (result ≡ Err XdrFault.Short) ↔ (length self.old < 4) }
-        ensures bad_enum { (result ≡ Err XdrFault.BadEnum) ↔ FrontWord (λ n _. (n < low) ⊎ (high < n)) self.old }
+        ensures bad_enum { (result ≡ Err XdrFault.BadEnum)
+            ↔ FrontWord (λ n _. (n < low) ⊎ (high < n)) self.old }
         ensures at_least { IfOk result (λ n. low ≤ n) }
         ensures at_most { IfOk result (λ n. n ≤ high) }
         ensures takes { OnOk result (length self.old ≡ length self.new + 4) }
