@@ -1,4 +1,6 @@
+ghost use Rattle.xdr_grammar.specs.Grammar.{done};
 ghost use Rattle.xdr_grammar.specs.Items.{word};
+ghost use Rattle.xdr_grammar.proofs.Composed.{done-laws};
 ghost use Rattle.xdr_grammar.proofs.Items.{word-laws};
 
 use super::*;
@@ -74,10 +76,25 @@ impl Lawful<u32> for Word {
     ghost laws = { word-laws };
 }
 
+impl Following<u32, u32> for Word {
+    ghost part = { record { grammar = word; get = λ n. n } };
+
+    ghost next = { λ n. done n };
+
+    ghost part_laws = { word-laws };
+
+    ghost next_laws = { λ n. done-laws n };
+
+    ghost keeps = { λ n front s r back t. t.is };
+}
+
 #[test]
 fn what_is_claimed_of_lawful_grammars_can_be_had(_rt: HostRuntime) {
     tested_is_lawful::<u32, Word>();
+    then_is_lawful::<u32, u32, Word>();
+    done_is_lawful::<u32>();
     either_is_lawful::<u32, Word, Word>();
+    case_is_lawful::<u32, u32, Word>();
     optional_is_lawful::<u32, Word>();
     entries_are_lawful::<u32, Word>();
     arrays_are_lawful::<u32, Word>(16);

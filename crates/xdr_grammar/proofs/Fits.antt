@@ -1,6 +1,5 @@
 -- Which values can be spelled, by item: what a caller of a writer shows.
-use Rattle.std.proofs.Common.{◌≡◌, ℕ, ◌^◌, ◌<◌, ◌≤◌, Bool, true, false, List, length, Option, Some, None, refl, arith}
-use Rattle.std.specs.Prelude.{nat_le}
+use Rattle.std.proofs.Common.{◌≡◌, ℕ, ◌^◌, ◌<◌, ◌≤◌, Bool, true, false, List, length, Some, None, refl, arith}
 use Rattle.std.proofs.lemmas.Bool.{le-leb, leb-true}
 use Rattle.xdr_grammar.specs.Grammar.{Grammar}
 use Rattle.xdr_grammar.specs.Items.{word, hyper, truth, pick, fixed, opaque}
