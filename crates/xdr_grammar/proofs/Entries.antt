@@ -1,5 +1,5 @@
 -- The laws of lists that a false boolean ends.
-use Rattle.std.proofs.Common.{◌≡◌, ℕ, zero, suc, ◌+◌, ◌<◌, Bool, true, false, List, [], ◌∷◌, ◌++◌, length, Result, Ok, Err, refl, sym, ap, subst, ◌∙◌, inl, inr, append_assoc, zero-add, lit<, length-append, arith}
+use Rattle.std.proofs.Common.{◌≡◌, ℕ, zero, suc, ◌+◌, ◌<◌, Bool, true, false, List, [], ◌∷◌, ◌++◌, length, Result, Ok, Err, refl, sym, ap, subst, ◌∙◌, inl, inr, append_assoc, zero-add, length-append, arith}
 use Rattle.std.specs.Prelude.{if◌then◌else◌}
 use Rattle.std.specs.List.{All, flat_map}
 use Rattle.std.proofs.lemmas.List.Concat.{flat_map-cons}
@@ -13,6 +13,7 @@ use Rattle.xdr_grammar.specs.Entries.SpellsEntries.{ended, entry}
 use Rattle.xdr_grammar.specs.Entries.BreaksEntries.{in_mark, in_entry, behind}
 use Rattle.xdr_grammar.specs.Laws.{Laws, Found, AreBytes}
 use Rattle.xdr_grammar.proofs.Steps.{and_then-ok, and_then-err, ok_is, AreBytes-front, AreBytes-back, fronts, before_rest, All-first, All-others}
+use Rattle.xdr_grammar.proofs.Fits.{truth_fits}
 use Rattle.xdr_grammar.proofs.Items.{truth-laws}
 
 -- each boolean is four bytes
@@ -130,11 +131,6 @@ read_entries-broken g laws fault _ (behind x bytes mark item others parts t s b)
     ∙ ap (λ r. and_then r (others_of x)) (read_entries-broken g laws fault others b bound less)
 
 -- ---- writing
-
-truth_fits : (b : Bool) → truth.Fits b
-unfolding truth word
-truth_fits true = record { first = record { fits = lit< tt; passes = refl }; second = refl }
-truth_fits false = record { first = record { fits = lit< tt; passes = refl }; second = refl }
 
 pub truth_written : (b : Bool) → truth.Spells b (truth.spelling b)
 truth_written b = truth-laws.written b (truth_fits b)

@@ -1,6 +1,7 @@
 pub mod Steps
 pub mod Composed
 pub mod Items
+pub mod Fits
 pub mod Choices
 pub mod Whole
 pub mod Entries
