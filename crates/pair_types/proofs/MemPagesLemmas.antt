@@ -1,5 +1,5 @@
 -- How a map of pages in memory changes with the collections that it is made of.
-use Rattle.std.proofs.Common.{◌≡◌, ◌≢◌, ℕ, List, Bool, true, false, ◌||◌, Option, Some, None, IsSome, is_some, if◌then◌else◌, refl, sym, ap, subst, rules, arith, ◌∙◌, le_of_eq, [], ◌<◌, ◌≤◌, unwrap_or, ⊎_elim}
+use Rattle.std.proofs.Common.{◌≡◌, ◌≢◌, ℕ, List, Bool, true, false, Option, Some, None, IsSome, refl, sym, ap, subst, arith, ◌∙◌, le_of_eq, [], ◌<◌, ◌≤◌, unwrap_or, ⊎_elim}
 use Rattle.std.proofs.lemmas.Bool.{cases_lt}
 use Rattle.std.proofs.lemmas.Map.Lookups.{exact_pairs, exact_unsigned}
 use Rattle.std.specs.BTreeMap as tree
@@ -13,7 +13,7 @@ use Rattle.pair_types.specs.declared.slot.Slot.{Slot}
 use Rattle.pair_types.specs.declared.mem_pages.MemPages.{MemPages}
 use Rattle.pair_types.specs.PageMaps.{PageMap, Puts, page_of, laid}
 use Rattle.pair_types.specs.MemPagesSound.{known_at, known_at-written}
-use Rattle.pair_types.specs.PageState.{PageState, Reads, Writes, Lasts, GivesUp, Freshens, no_memory}
+use Rattle.pair_types.specs.PageState.{PageState, Reads, Writes, GivesUp, Freshens, no_memory}
 use Rattle.pair_types.specs.declared.fault.PageFault.{PageFault}
 use Rattle.pair_types.specs.MemPages.{place_cmp, held_of, writes_of, reads_of, state_of, IsMarked, IsFreeIn, Sets}
 

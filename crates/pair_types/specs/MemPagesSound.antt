@@ -1,11 +1,10 @@
 -- What a map of pages in memory keeps: each written slot was read, and the reads are true of what lies below.
 use Rattle.std.proofs.Common.{◌≡◌, ◌||◌, ℕ, List, Bool, true, false, Option, Some, None, IsSome, is_some, if◌then◌else◌, refl, subst}
 use Rattle.std.specs.BTreeSet.{contains}
-use Rattle.pair_types.specs.declared.slot.Slot.{Slot}
 use Rattle.pair_types.specs.declared.mem_pages.MemPages.{MemPages}
-use Rattle.pair_types.specs.PageMaps.{PageMap, Agrees}
+use Rattle.pair_types.specs.PageMaps.{PageMap}
 use Rattle.pair_types.specs.PageState.{IsSound}
-use Rattle.pair_types.specs.MemPages.{place_cmp, held_of, writes_of, reads_of, state_of}
+use Rattle.pair_types.specs.MemPages.{place_cmp, held_of, writes_of, state_of}
 
 -- at one slot
 abbrev pub known_at : Bool → Option (List ℕ) → Option (List ℕ) → Option (Option (List ℕ))
