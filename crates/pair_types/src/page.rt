@@ -39,6 +39,13 @@ impl Page {
         Ok(Page { bytes })
     }
 
+    /// The page of these bytes, which are shared. It takes no memory.
+    pub fn from_bytes(bytes: Bytes) -> Page
+        ensures { result ≡ bytes }
+    {
+        Page { bytes }
+    }
+
     /// A page with these bytes.
     pub fn from_slice(alloc: Global, bytes: &[u8]) -> Result<Page, NoMemory>
         ensures { IfOk result (λ page. page ≡ bytes.now) }

@@ -17,6 +17,8 @@ fn pages_in_memory_are_read_written_and_fresh(rt: HostRuntime) -> Result<(), Fai
     pages.write(fresh, page.copy()?)?;
     assert_eq!(rt; pages.read(fresh)?.as_slice(), b"new".as_slice());
     assert!(rt; pages.fresh(1)? != fresh);
+    let shared = Page::from_bytes(bytes::Bytes::from_static(b"shared"));
+    assert_eq!(rt; shared.as_slice(), b"shared".as_slice());
     let beyond = Slot {
         store: 2,
         number: 0,
