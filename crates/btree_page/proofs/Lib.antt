@@ -1,0 +1,4 @@
+pub mod Cells
+pub mod Fields
+pub mod Index
+pub mod Whole

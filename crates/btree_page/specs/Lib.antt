@@ -1,0 +1,4 @@
+pub mod Cells
+pub mod Content
+pub mod Reading
+pub mod View
