@@ -11,7 +11,7 @@ use Rattle.std.proofs.lemmas.Bool.{eqb-true, eq-eqb}
 use Rattle.pair_types.specs.declared.slot.Slot.{Slot}
 use Rattle.btree_page.specs.declared.format.PageFormat.{PageFormat}
 use Rattle.btree_page.specs.declared.format.PageFormat.TheVariants.{Malformed}
-use Rattle.btree_page.specs.Content.{Bound, bound_cmp, IsBelow, Body, Carries, Leads, Entry, bound_of, string, body_spelling, entry_spelling, Fits, FitsBody, Follows, AreCells}
+use Rattle.btree_page.specs.Content.{Bound, bound_cmp, IsBelow, Body, Carries, Leads, Entry, bound_of, string, body_spelling, entry_spelling, Fits, FitsBody, Follows, AreCells, last_bound}
 use Rattle.btree_page.specs.Reading.{◌>>=◌, Ahead, fails, number_at, string_at, body_at, rest_at, entry_at, cells_at, key_limit, may_follow}
 use Rattle.btree_page.proofs.Fields.{IsBytes, bind_ok, bind_by, bind_err, test_ok, ok_is, Takes, Takes-then, past, past-then, wide32, wide64, number_takes, number_again, string_takes, string_again}
 
@@ -178,11 +178,6 @@ cells_again is_leaf before (c ∷ cells) a rest fits e =
 
 -- ---- one cell more
 
--- what stands before the cell that comes next
-abbrev pub last_bound : Option Bound → List Entry → Option Bound
-last_bound before [] = before
-last_bound before (e ∷ es) = last_bound (Some (bound_of e)) es
-
 pub cells_more : (is_leaf : Bool) (n : ℕ) (before : Option Bound) (a : Ahead) (cells : List Entry) (b : Ahead) (e : Entry) (c : Ahead)
     → cells_at is_leaf n before a ≡ Ok (cells, b) → entry_at is_leaf (last_bound before cells) b ≡ Ok (e, c)
     → cells_at is_leaf (suc n) before a ≡ Ok (cells ++ e ∷ [], c)
@@ -228,3 +223,14 @@ cells_end is_leaf (suc n) (suc m) before a cells b fault h next lt =
 pub last_bound-push : (before : Option Bound) (cells : List Entry) (e : Entry) → last_bound before (cells ++ e ∷ []) ≡ Some (bound_of e)
 last_bound-push before [] e = refl
 last_bound-push before (c ∷ cells) e = last_bound-push (Some (bound_of c)) cells e
+
+-- there are at least as many bytes as cells
+pub cells_many : (is_leaf : Bool) (before : Option Bound) (cells : List Entry) → AreCells is_leaf before cells → length cells ≤ length (flat_map entry_spelling cells)
+cells_many is_leaf before [] h = omega arith
+cells_many is_leaf before (e ∷ es) h =
+    omega (arith, cells_many is_leaf (Some (bound_of e)) es h.1.1, entry_spelling-long is_leaf e h.0, length-append (entry_spelling e) (flat_map entry_spelling es))
+
+pub AreCells-push : (is_leaf : Bool) (before : Option Bound) (cells : List Entry) (e : Entry) → AreCells is_leaf before cells
+    → Fits is_leaf e → Follows is_leaf (last_bound before cells) e → AreCells is_leaf before (cells ++ e ∷ [])
+AreCells-push is_leaf before [] e h fits follows = (fits, (follows, tt))
+AreCells-push is_leaf before (c ∷ cells) e h fits follows = (h.0, (h.1.0, AreCells-push is_leaf (Some (bound_of c)) cells e h.1.1 fits follows))

@@ -8,11 +8,11 @@ use Rattle.cursor.specs.Position.{Position}
 use Rattle.pair_types.specs.declared.slot.Slot.{Slot}
 use Rattle.btree_page.specs.declared.format.PageFormat.{PageFormat}
 use Rattle.btree_page.specs.declared.format.PageFormat.TheVariants.{Malformed}
-use Rattle.btree_page.specs.Content.{Bound, Body, Carries, Leads, Entry, bound_of}
+use Rattle.btree_page.specs.Content.{Bound, Body, Carries, Leads, Entry, bound_of, last_bound}
 use Rattle.btree_page.specs.Reading.{◌>>=◌, Ahead, ahead, fails, part_at, number_at, string_at, body_at, rest_at, entry_at, plain_at, cells_at, cell_in, value_of, key_limit, may_follow}
 use Rattle.btree_page.specs.View.{StandsAt, IsIndex, IsTable}
 use Rattle.btree_page.proofs.Fields.{bind_ok, bind_by, guard_ok, test_ok, ok_is}
-use Rattle.btree_page.proofs.Cells.{key_limit-le, last_bound, cells_more, cells_end, last_bound-push}
+use Rattle.btree_page.proofs.Cells.{key_limit-le, cells_more, cells_end, last_bound-push}
 
 -- ---- how far a field goes
 

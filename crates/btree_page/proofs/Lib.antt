@@ -1,3 +1,4 @@
+pub mod Built
 pub mod Cells
 pub mod Fields
 pub mod Index

@@ -13,7 +13,7 @@ use Rattle.btree_page.specs.Content.{Bound, bound_of, Entry, Content, head, spel
 use Rattle.btree_page.specs.Reading.{◌>>=◌, Ahead, ahead, fails, number_at, head_at, cells_at, plain_at, page_at, from_place, value_of, cell_in}
 use Rattle.btree_page.specs.View.{StandsAt, IsIndex, IsTable, content_in, content_of, IsIndexed}
 use Rattle.btree_page.proofs.Fields.{IsBytes, IsBytes-take, small, bind_ok, bind_by, bind_err, test_ok, ok_is, Takes, Takes-then, past, wide8, wide16, number_takes, number_again}
-use Rattle.btree_page.proofs.Cells.{cells_take, cells_again, entry_spelling-long}
+use Rattle.btree_page.proofs.Cells.{cells_take, cells_again, cells_many}
 use Rattle.btree_page.proofs.Index.{cells_count_of}
 
 abbrev pub start : List ℕ → Ahead
@@ -254,22 +254,13 @@ page_only text content h =
     let len : length (spelling content) ≡ length text = ap (λ (xs : List ℕ). length xs) h.text in
     let short : length text ≤ 8192 = omega (arith, h.rules.size) in
     let body = flat_map entry_spelling content.cells in
-    let count : length content.cells < 2 ^ 16 = count_small (content.level == 0) None content.cells h.rules.cells (omega (arith, h.rules.size, length-append (head content.level (length content.cells)) body)) in
+    let count : length content.cells < 2 ^ 16 = omega (arith, h.rules.size, length-append (head content.level (length content.cells)) body, cells_many (content.level == 0) None content.cells h.rules.cells) in
     let whole : (start text).bytes ≡ head content.level (length content.cells) ++ body = take_all 8192 text short ∙ sym h.text in
     let front = head_again content.level (length content.cells) (start text) body h.rules.level count h.rules.least whole in
     let cells = cells_again (content.level == 0) None content.cells (past (start text) (head content.level (length content.cells)) body) [] h.rules.cells (sym (append-nil body)) in
     page_reads text ((content.level, length content.cells), past (start text) (head content.level (length content.cells)) body)
       (content.cells, past (past (start text) (head content.level (length content.cells)) body) body []) front cells
       (omega (arith, length-append (head content.level (length content.cells)) body))
-  where
-    count_small : (is_leaf : Bool) (before : Option Bound) (cells : List Entry) → AreCells is_leaf before cells
-        → length (flat_map entry_spelling cells) ≤ 8192 → length cells < 2 ^ 16
-    count_small is_leaf before cells h le = omega (arith, many is_leaf before cells h)
-      where
-        many : (is_leaf : Bool) (before : Option Bound) (cells : List Entry) → AreCells is_leaf before cells → length cells ≤ length (flat_map entry_spelling cells)
-        many is_leaf before [] h = omega arith
-        many is_leaf before (e ∷ es) h =
-            omega (arith, many is_leaf (Some (bound_of e)) es h.1.1, entry_spelling-long is_leaf e h.0, length-append (entry_spelling e) (flat_map entry_spelling es))
 
 -- a text that does not read is spelled by no page
 pub only_fails : (text : List ℕ) (fault : PageFormat) → page_at text ≡ Err fault → (content : Content) → Spells content text → ⊥

@@ -81,6 +81,11 @@ abbrev pub AreCells : Bool → Option Bound → List Entry → Type 0
 AreCells is_leaf before [] = Unit {0}
 AreCells is_leaf before (e ∷ es) = Fits is_leaf e × (Follows is_leaf before e × AreCells is_leaf (Some (bound_of e)) es)
 
+-- what stands before the cell that comes next
+abbrev pub last_bound : Option Bound → List Entry → Option Bound
+last_bound before [] = before
+last_bound before (e ∷ es) = last_bound (Some (bound_of e)) es
+
 pub record IsPage (page : Content) : Type 0 where
   pub level : page.level < 256
   pub cells : AreCells (page.level == 0) None page.cells
@@ -91,3 +96,21 @@ pub record IsPage (page : Content) : Type 0 where
 pub record Spells (content : Content) (bytes : List ℕ) : Type 0 where
   pub rules : IsPage content
   pub text : spelling content ≡ bytes
+
+-- ---- a page that is built
+
+-- a page with one cell more
+abbrev pub with_cell : Content → Entry → Content
+with_cell page e = record page { cells = page.cells ++ e ∷ [] }
+
+-- a cell that may be added: it is one of this kind of page, and above the cells so far
+pub record IsNext (page : Content) (e : Entry) : Type 0 where
+  pub fits : Fits (page.level == 0) e
+  pub follows : Follows (page.level == 0) (last_bound None page.cells) e
+
+-- a record and a child, as cells
+abbrev pub leaf_entry : List ℕ → ℕ → ℕ → List ℕ → Entry
+leaf_entry key birth death value = record { key = key; birth = birth; body = Carries death value }
+
+abbrev pub inner_entry : List ℕ → ℕ → Slot → Entry
+inner_entry key birth child = record { key = key; birth = birth; body = Leads child }

@@ -1,3 +1,4 @@
+pub mod Builder
 pub mod Cells
 pub mod Content
 pub mod Reading

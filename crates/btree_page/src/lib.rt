@@ -5,10 +5,12 @@
 //! B-tree of pages is. It stands on `cursor` and `pair_types`.
 #![tactic(auto)]
 
+mod builder;
 mod cell;
 mod format;
 mod reading;
 mod view;
 
+pub use builder::{PageBuilder, TooBig};
 pub use cell::Cell;
 pub use format::PageFormat;
