@@ -24,7 +24,7 @@ bytes_of level cells = 1 ∷ level ∷ 0 ∷ 0 ∷ flat_map entry_spelling cells
 pub built_is : (level : ℕ) (cells : List Entry) → AreCells (level == 0) None cells → built level (length cells) (bytes_of level cells) ≡ cells
 built_is level cells rules =
     ap (λ (r : Result (List Entry × Ahead) PageFormat). cells_in r)
-      (cells_again (level == 0) None cells (from_place (bytes_of level cells) 4) [] rules (sym (append-nil (flat_map entry_spelling cells))))
+    (cells_again (level == 0) None cells (from_place (bytes_of level cells) 4) [] rules (sym (append-nil (flat_map entry_spelling cells))))
 
 -- bytes that are spelled so are a page that is built
 pub is_built : (level count spare : ℕ) (bytes : List ℕ) (cells : List Entry) → level < 256 → bytes ≡ bytes_of level cells
@@ -32,8 +32,7 @@ pub is_built : (level count spare : ℕ) (bytes : List ℕ) (cells : List Entry)
     → IsBuilt level count bytes spare × (built level count bytes ≡ cells)
 is_built level count spare bytes cells byte spelled rules counted short room =
     let is : built level count bytes ≡ cells =
-      ap (λ (n : ℕ). built level n bytes) (sym counted) ∙ (ap (λ (xs : List ℕ). built level (length cells) xs) spelled ∙ built_is level cells rules) in
-    (
+    ap (λ (n : ℕ). built level n bytes) (sym counted) ∙ (ap (λ (xs : List ℕ). built level (length cells) xs) spelled ∙ built_is level cells rules) in (
       record {
         byte = byte;
         spelled = spelled ∙ ap (λ (cs : List Entry). bytes_of level cs) (sym is);
@@ -53,31 +52,46 @@ pub built_more : (level count spare spare' : ℕ) (bytes bytes' : List ℕ) (e :
 built_more level count spare spare' bytes bytes' e h next is short room =
     let cells = built level count bytes in
     let spelled : bytes' ≡ bytes_of level (cells ++ e ∷ []) =
-      is ∙ (ap (λ (xs : List ℕ). xs ++ entry_spelling e) h.spelled ∙ ap (λ (xs : List ℕ). 1 ∷ level ∷ 0 ∷ 0 ∷ xs) (sym (flat_map-push cells e))) in
+    is ∙ (ap (λ (xs : List ℕ). xs ++ entry_spelling e) h.spelled ∙ ap (λ (xs : List ℕ). 1 ∷ level ∷ 0 ∷ 0 ∷ xs) (sym (flat_map-push cells e))) in
     let len : length bytes' ≡ length bytes + length (entry_spelling e) = ap (λ (xs : List ℕ). length xs) is ∙ length-append bytes (entry_spelling e) in
     is_built level (count + 1) spare' bytes' (cells ++ e ∷ []) h.byte spelled
-      (AreCells-push (level == 0) None cells e h.rules next.fits next.follows)
-      (omega (arith, length-append cells (e ∷ []), h.counted))
-      (omega (arith, len)) (omega (arith, len, h.room))
+    (AreCells-push (level == 0) None cells e h.rules next.fits next.follows)
+    (omega (arith, length-append cells (e ∷ []), h.counted))
+    (omega (arith, len)) (omega (arith, len, h.room))
 
 -- how long the page is with one cell more
 pub size_more : (level count spare : ℕ) (bytes : List ℕ) (e : Entry) → IsBuilt level count bytes spare
     → length (spelling (with_cell (record { level = level; cells = built level count bytes }) e)) ≡ length bytes + length (entry_spelling e)
 size_more level count spare bytes e h =
     let cells = built level count bytes in
-    omega (arith, ap (λ (xs : List ℕ). length xs) h.spelled, ap (λ (xs : List ℕ). length xs) (flat_map-push cells e), length-append (flat_map entry_spelling cells) (entry_spelling e),
-      length-append (head level (length (cells ++ e ∷ []))) (flat_map entry_spelling (cells ++ e ∷ [])))
+    omega (
+      arith,
+      ap (λ (xs : List ℕ). length xs) h.spelled,
+      ap (λ (xs : List ℕ). length xs) (flat_map-push cells e),
+      length-append (flat_map entry_spelling cells) (entry_spelling e),
+      length-append (head level (length (cells ++ e ∷ []))) (flat_map entry_spelling (cells ++ e ∷ [])),
+    )
 
 pub leaf_size : (key : List ℕ) (birth death : ℕ) (value : List ℕ) → length (entry_spelling (leaf_entry key birth death value)) ≡ 20 + length key + length value
 leaf_size key birth death value =
-    omega (arith, length-append (string key) (to_be_bytes w64 birth ++ (to_be_bytes w64 death ++ string value)), length-append (to_be_bytes w64 birth) (to_be_bytes w64 death ++ string value),
-      length-append (to_be_bytes w64 death) (string value), length-append (to_be_bytes w16 (length key)) key, length-append (to_be_bytes w16 (length value)) value)
+    omega (
+      arith,
+      length-append (string key) (to_be_bytes w64 birth ++ (to_be_bytes w64 death ++ string value)),
+      length-append (to_be_bytes w64 birth) (to_be_bytes w64 death ++ string value),
+      length-append (to_be_bytes w64 death) (string value),
+      length-append (to_be_bytes w16 (length key)) key,
+      length-append (to_be_bytes w16 (length value)) value,
+    )
 
 pub inner_size : (key : List ℕ) (birth : ℕ) (child : Slot) → length (entry_spelling (inner_entry key birth child)) ≡ 22 + length key
 inner_size key birth child =
-    omega (arith, length-append (string key) (to_be_bytes w64 birth ++ (to_be_bytes w32 child.store ++ to_be_bytes w64 child.number)),
+    omega (
+      arith,
+      length-append (string key) (to_be_bytes w64 birth ++ (to_be_bytes w32 child.store ++ to_be_bytes w64 child.number)),
       length-append (to_be_bytes w64 birth) (to_be_bytes w32 child.store ++ to_be_bytes w64 child.number),
-      length-append (to_be_bytes w32 child.store) (to_be_bytes w64 child.number), length-append (to_be_bytes w16 (length key)) key)
+      length-append (to_be_bytes w32 child.store) (to_be_bytes w64 child.number),
+      length-append (to_be_bytes w16 (length key)) key,
+    )
 
 pub value_short : (is_leaf : Bool) (death : ℕ) (value : List ℕ) → FitsBody is_leaf (Carries death value) → length value ≤ 1200
 value_short true death value h = h.1
@@ -95,7 +109,7 @@ pub finished : (level count spare : ℕ) (bytes page : List ℕ) → IsBuilt lev
 finished level count spare bytes page h least is =
     let cells = built level count bytes in
     let same : spelling (record { level = level; cells = cells }) ≡ page =
-      ap (λ (n : ℕ). head level n ++ flat_map entry_spelling cells) h.counted ∙ (sym (ap (λ (xs : List ℕ). with_count xs count) h.spelled) ∙ sym is) in
+    ap (λ (n : ℕ). head level n ++ flat_map entry_spelling cells) h.counted ∙ (sym (ap (λ (xs : List ℕ). with_count xs count) h.spelled) ∙ sym is) in
     record {
       rules = record {
         level = h.byte;
@@ -105,3 +119,26 @@ finished level count spare bytes page h least is =
       };
       text = same;
     }
+
+-- four parts put one behind the other
+pub joined : (old x y z w zr wr a b c : List ℕ) → zr ≡ z → wr ≡ w → a ≡ (old ++ x) ++ y → b ≡ a ++ zr → c ≡ b ++ wr → c ≡ old ++ (x ++ (y ++ (z ++ w)))
+joined old x y z w zr wr a b c zs ws p q r =
+    let whole : c ≡ (((old ++ x) ++ y) ++ z) ++ w =
+    r ∙ (ap (λ (t : List ℕ). t ++ wr) (q ∙ ap (λ (t : List ℕ). t ++ zr) p) ∙ (ap (λ (t : List ℕ). (((old ++ x) ++ y) ++ t) ++ wr) zs ∙ ap (λ (t : List ℕ). (((old ++ x) ++ y) ++ z) ++ t) ws)) in
+    whole ∙ simp append_assoc
+
+-- what one cell more makes of the page that is seen
+pub added : (page : Content) (level count spare spare' : ℕ) (bytes bytes' : List ℕ) (e : Entry)
+    → record { level = level; cells = built level count bytes } ≡ page → IsBuilt level count bytes spare → IsNext page e
+    → bytes' ≡ bytes ++ entry_spelling e → length bytes + length (entry_spelling e) ≤ 8192 → spare' + length (entry_spelling e) ≡ spare
+    → IsBuilt level (count + 1) bytes' spare' × (record { level = level; cells = built level (count + 1) bytes' } ≡ with_cell page e)
+added page level count spare spare' bytes bytes' e view h next is short room =
+    let here : IsNext (record { level = level; cells = built level count bytes }) e = subst (λ (p : Content). IsNext p e) (sym view) next in
+    let more = built_more level count spare spare' bytes bytes' e h here is short room in
+    (more.0, ap (λ (cs : List Entry). let made : Content = record { level = level; cells = cs } in made) more.1 ∙ ap (λ (p : Content). with_cell p e) view)
+
+pub size_with : (page : Content) (level count spare : ℕ) (bytes : List ℕ) (e : Entry)
+    → record { level = level; cells = built level count bytes } ≡ page → IsBuilt level count bytes spare
+    → length (spelling (with_cell page e)) ≡ length bytes + length (entry_spelling e)
+size_with page level count spare bytes e view h =
+    ap (λ (p : Content). length (spelling (with_cell p e))) (sym view) ∙ size_more level count spare bytes e h

@@ -27,7 +27,7 @@ body_takes true a body b fits e =
     let value = string_takes 1200 d.0.1 v.0.0 v.0.1 death.0.rest_fits v.1 in
     let whole = Takes-then a (to_be_bytes w64 d.0.0) d.0.1 (string v.0.0) v.0.1 death.0 value.0 in
     subst (λ (p : Body × Ahead). Takes a (body_spelling p.0) p.1 × FitsBody true p.0)
-      (ok_is (Carries d.0.0 v.0.0, v.0.1) (body, b) v.2) (whole, (death.1, value.1))
+    (ok_is (Carries d.0.0 v.0.0, v.0.1) (body, b) v.2) (whole, (death.1, value.1))
 body_takes false a body b fits e =
     let s = bind_ok (number_at w32 a) (λ store. number_at w64 store.1 >>= λ number. Ok (Leads (record { store = store.0; number = number.0 }), number.1)) (body, b) e in
     let n = bind_ok (number_at w64 s.0.1) (λ number. Ok (Leads (record { store = s.0.0; number = number.0 }), number.1)) (body, b) s.2 in
@@ -36,7 +36,7 @@ body_takes false a body b fits e =
     let whole = Takes-then a (to_be_bytes w32 s.0.0) s.0.1 (to_be_bytes w64 n.0.0) n.0.1 store.0 number.0 in
     let child : Slot = record { store = s.0.0; number = n.0.0 } in
     subst (λ (p : Body × Ahead). Takes a (body_spelling p.0) p.1 × FitsBody false p.0)
-      (ok_is (Leads child, n.0.1) (body, b) n.2) (whole, (store.1, number.1))
+    (ok_is (Leads child, n.0.1) (body, b) n.2) (whole, (store.1, number.1))
 
 pub body_again : (is_leaf : Bool) (body : Body) (a : Ahead) (rest : List ℕ) → FitsBody is_leaf body
     → a.bytes ≡ body_spelling body ++ rest → body_at is_leaf a ≡ Ok (body, past a (body_spelling body) rest)
@@ -108,8 +108,8 @@ entry_takes is_leaf before a entry b fits e =
     let whole = Takes-then a (string k.0.0) k.0.1 (to_be_bytes w64 n.0.0 ++ body_spelling y.0.0) y.0.1 key.0 back in
     let rules : Fits is_leaf made = record { key = omega (arith, key.1, key_limit-le is_leaf before); birth = birth.1; body = body.1 } in
     subst (λ (p : Entry × Ahead). Takes a (entry_spelling p.0) p.1 × (Fits is_leaf p.0 × Follows is_leaf before p.0))
-      (ok_is (made, y.0.1) (entry, b) y.2)
-      (whole, (rules, follows_from_tests is_leaf before made key.1 t.0))
+    (ok_is (made, y.0.1) (entry, b) y.2)
+    (whole, (rules, follows_from_tests is_leaf before made key.1 t.0))
 
 pub entry_again : (is_leaf : Bool) (before : Option Bound) (e : Entry) (a : Ahead) (rest : List ℕ) → Fits is_leaf e → Follows is_leaf before e
     → a.bytes ≡ entry_spelling e ++ rest → entry_at is_leaf before a ≡ Ok (e, past a (entry_spelling e) rest)
@@ -124,7 +124,7 @@ entry_again is_leaf before e a rest fits follows is =
     let n = number_again w64 (2 ^ 64) wide64 e.birth (past a front (middle ++ (back ++ rest))) (back ++ rest) fits.birth refl in
     let b = body_again is_leaf e.body (past (past a front (middle ++ (back ++ rest))) middle (back ++ rest)) rest fits.body refl in
     let place : past (past (past a front (middle ++ (back ++ rest))) middle (back ++ rest)) back rest ≡ past a (front ++ (middle ++ back)) rest =
-      ap (λ (x : ℕ). let made : Ahead = record { place = x; bytes = rest } in made) (omega (arith, length-append front (middle ++ back), length-append middle back)) in
+    ap (λ (x : ℕ). let made : Ahead = record { place = x; bytes = rest } in made) (omega (arith, length-append front (middle ++ back), length-append middle back)) in
     rw (k, n, tests.1, b) (ap (λ (x : Ahead). Ok (e, x)) place)
 
 -- a cell has at least twenty bytes
@@ -146,8 +146,8 @@ pub cells_take : (is_leaf : Bool) (n : ℕ) (before : Option Bound) (a : Ahead) 
 unfolding cells_at
 cells_take is_leaf zero before a cells b fits e =
     subst (λ (p : List Entry × Ahead). Takes a (flat_map entry_spelling p.0) p.1 × (AreCells is_leaf before p.0 × (length p.0 ≡ 0)))
-      (ok_is ([], a) (cells, b) e)
-      (record { parts = refl; place = omega arith; rest_fits = fits }, (tt, refl))
+    (ok_is ([], a) (cells, b) e)
+    (record { parts = refl; place = omega arith; rest_fits = fits }, (tt, refl))
 cells_take is_leaf (suc n) before a cells b fits e =
     let f = bind_ok (entry_at is_leaf before a) (λ first. cells_at is_leaf n (Some (bound_of first.0)) first.1 >>= λ others. Ok (first.0 ∷ others.0, others.1)) (cells, b) e in
     let o = bind_ok (cells_at is_leaf n (Some (bound_of f.0.0)) f.0.1) (λ others. Ok (f.0.0 ∷ others.0, others.1)) (cells, b) f.2 in
@@ -155,8 +155,8 @@ cells_take is_leaf (suc n) before a cells b fits e =
     let others = cells_take is_leaf n (Some (bound_of f.0.0)) f.0.1 o.0.0 o.0.1 first.0.rest_fits o.1 in
     let whole = Takes-then a (entry_spelling f.0.0) f.0.1 (flat_map entry_spelling o.0.0) o.0.1 first.0 others.0 in
     subst (λ (p : List Entry × Ahead). Takes a (flat_map entry_spelling p.0) p.1 × (AreCells is_leaf before p.0 × (length p.0 ≡ suc n)))
-      (ok_is (f.0.0 ∷ o.0.0, o.0.1) (cells, b) o.2)
-      (whole, ((first.1.0, (first.1.1, others.1.0)), ap suc others.1.1))
+    (ok_is (f.0.0 ∷ o.0.0, o.0.1) (cells, b) o.2)
+    (whole, ((first.1.0, (first.1.1, others.1.0)), ap suc others.1.1))
 
 pub past_nothing : (a : Ahead) (rest : List ℕ) → a.bytes ≡ rest → a ≡ past a [] rest
 past_nothing a rest e =
@@ -186,18 +186,18 @@ cells_more is_leaf zero before a cells b e c h next =
     let same = ok_is ([], a) (cells, b) h in
     let at_start : entry_at is_leaf before a ≡ Ok (e, c) = subst (λ (p : List Entry × Ahead). entry_at is_leaf (last_bound before p.0) p.1 ≡ Ok (e, c)) (sym same) next in
     let one : cells_at is_leaf 1 before a ≡ Ok (e ∷ [], c) =
-      bind_by (entry_at is_leaf before a) (λ first. cells_at is_leaf 0 (Some (bound_of first.0)) first.1 >>= λ others. Ok (first.0 ∷ others.0, others.1)) (e, c) (Ok (e ∷ [], c)) at_start refl in
+    bind_by (entry_at is_leaf before a) (λ first. cells_at is_leaf 0 (Some (bound_of first.0)) first.1 >>= λ others. Ok (first.0 ∷ others.0, others.1)) (e, c) (Ok (e ∷ [], c)) at_start refl in
     subst (λ (p : List Entry × Ahead). cells_at is_leaf 1 before a ≡ Ok (p.0 ++ e ∷ [], c)) same one
 cells_more is_leaf (suc n) before a cells b e c h next =
     let f = bind_ok (entry_at is_leaf before a) (λ first. cells_at is_leaf n (Some (bound_of first.0)) first.1 >>= λ others. Ok (first.0 ∷ others.0, others.1)) (cells, b) h in
     let o = bind_ok (cells_at is_leaf n (Some (bound_of f.0.0)) f.0.1) (λ others. Ok (f.0.0 ∷ others.0, others.1)) (cells, b) f.2 in
     let same = ok_is (f.0.0 ∷ o.0.0, o.0.1) (cells, b) o.2 in
     let next_here : entry_at is_leaf (last_bound (Some (bound_of f.0.0)) o.0.0) o.0.1 ≡ Ok (e, c) =
-      subst (λ (p : List Entry × Ahead). entry_at is_leaf (last_bound before p.0) p.1 ≡ Ok (e, c)) (sym same) next in
+    subst (λ (p : List Entry × Ahead). entry_at is_leaf (last_bound before p.0) p.1 ≡ Ok (e, c)) (sym same) next in
     let more = cells_more is_leaf n (Some (bound_of f.0.0)) f.0.1 o.0.0 o.0.1 e c o.1 next_here in
     let whole : cells_at is_leaf (suc (suc n)) before a ≡ Ok (f.0.0 ∷ (o.0.0 ++ e ∷ []), c) =
-      bind_by (entry_at is_leaf before a) (λ first. cells_at is_leaf (suc n) (Some (bound_of first.0)) first.1 >>= λ others. Ok (first.0 ∷ others.0, others.1)) f.0 (Ok (f.0.0 ∷ (o.0.0 ++ e ∷ []), c)) f.1
-        (bind_by (cells_at is_leaf (suc n) (Some (bound_of f.0.0)) f.0.1) (λ others. Ok (f.0.0 ∷ others.0, others.1)) (o.0.0 ++ e ∷ [], c) (Ok (f.0.0 ∷ (o.0.0 ++ e ∷ []), c)) more refl) in
+    bind_by (entry_at is_leaf before a) (λ first. cells_at is_leaf (suc n) (Some (bound_of first.0)) first.1 >>= λ others. Ok (first.0 ∷ others.0, others.1)) f.0 (Ok (f.0.0 ∷ (o.0.0 ++ e ∷ []), c)) f.1
+    (bind_by (cells_at is_leaf (suc n) (Some (bound_of f.0.0)) f.0.1) (λ others. Ok (f.0.0 ∷ others.0, others.1)) (o.0.0 ++ e ∷ [], c) (Ok (f.0.0 ∷ (o.0.0 ++ e ∷ []), c)) more refl) in
     subst (λ (p : List Entry × Ahead). cells_at is_leaf (suc (suc n)) before a ≡ Ok (p.0 ++ e ∷ [], c)) same whole
 
 -- a cell that does not read after n of them: no longer list reads
@@ -215,10 +215,10 @@ cells_end is_leaf (suc n) (suc m) before a cells b fault h next lt =
     let o = bind_ok (cells_at is_leaf n (Some (bound_of f.0.0)) f.0.1) (λ others. Ok (f.0.0 ∷ others.0, others.1)) (cells, b) f.2 in
     let same = ok_is (f.0.0 ∷ o.0.0, o.0.1) (cells, b) o.2 in
     let next_here : entry_at is_leaf (last_bound (Some (bound_of f.0.0)) o.0.0) o.0.1 ≡ Err fault =
-      subst (λ (p : List Entry × Ahead). entry_at is_leaf (last_bound before p.0) p.1 ≡ Err fault) (sym same) next in
+    subst (λ (p : List Entry × Ahead). entry_at is_leaf (last_bound before p.0) p.1 ≡ Err fault) (sym same) next in
     bind_by (entry_at is_leaf before a) (λ first. cells_at is_leaf m (Some (bound_of first.0)) first.1 >>= λ others. Ok (first.0 ∷ others.0, others.1)) f.0 (Err fault) f.1
-      (bind_err (cells_at is_leaf m (Some (bound_of f.0.0)) f.0.1) (λ others. Ok (f.0.0 ∷ others.0, others.1)) fault
-        (cells_end is_leaf n m (Some (bound_of f.0.0)) f.0.1 o.0.0 o.0.1 fault o.1 next_here (omega arith)))
+    (bind_err (cells_at is_leaf m (Some (bound_of f.0.0)) f.0.1) (λ others. Ok (f.0.0 ∷ others.0, others.1)) fault
+    (cells_end is_leaf n m (Some (bound_of f.0.0)) f.0.1 o.0.0 o.0.1 fault o.1 next_here (omega arith)))
 
 pub last_bound-push : (before : Option Bound) (cells : List Entry) (e : Entry) → last_bound before (cells ++ e ∷ []) ≡ Some (bound_of e)
 last_bound-push before [] e = refl

@@ -160,7 +160,7 @@ pub number_again : (w : Width) (limit : ℕ) (wide : IsWide w limit) (n : ℕ) (
 unfolding number_at
 number_again w limit wide n a rest lt e =
     let part : part_at (byte_len w) a ≡ Ok (to_be_bytes w n, past a (to_be_bytes w n) rest) =
-      subst (λ (k : ℕ). part_at k a ≡ Ok (to_be_bytes w n, past a (to_be_bytes w n) rest)) (wide.len n) (part_again (to_be_bytes w n) a rest e) in
+    subst (λ (k : ℕ). part_at k a ≡ Ok (to_be_bytes w n, past a (to_be_bytes w n) rest)) (wide.len n) (part_again (to_be_bytes w n) a rest e) in
     rw part (ap (λ (m : ℕ). Ok (m, past a (to_be_bytes w n) rest)) (wide.again n lt))
 
 -- ---- strings

@@ -87,8 +87,8 @@ unfolding plain_at
 plain_too is_leaf before a x e =
     let r = read_of is_leaf before a x e in
     bind_by (string_at 264 a) (λ key. number_at w64 key.1 >>= λ birth. rest_at is_leaf key.0 birth.0 birth.1) r.key (Ok x)
-      (string_wider (key_limit is_leaf before) a r.key (key_limit-le is_leaf before) r.key_read)
-      (bind_by (number_at w64 r.key.1) (λ birth. rest_at is_leaf r.key.0 birth.0 birth.1) r.birth (Ok x) r.birth_read r.rest_read)
+    (string_wider (key_limit is_leaf before) a r.key (key_limit-le is_leaf before) r.key_read)
+    (bind_by (number_at w64 r.key.1) (λ birth. rest_at is_leaf r.key.0 birth.0 birth.1) r.birth (Ok x) r.birth_read r.rest_read)
 
 -- ---- the loop
 
@@ -141,11 +141,11 @@ pub indexed_more : (is_leaf : Bool) (i : ℕ) (from now next : Position) (before
     → Indexed is_leaf (i + 1) from next after (set table i place)
 indexed_more is_leaf i from now next before table e h read text lt place at within after is =
     let here : entry_at is_leaf (last_bound None h.cells) (ahead now) ≡ Ok (e, ahead next) =
-      subst (λ (b : Option Bound). entry_at is_leaf b (ahead now) ≡ Ok (e, ahead next)) h.last read in
+    subst (λ (b : Option Bound). entry_at is_leaf b (ahead now) ≡ Ok (e, ahead next)) h.last read in
     let inside : i < length table = omega (arith, h.full) in
     let stands : cell_in is_leaf from.text now.place ≡ Some e =
-      subst (λ (text : List ℕ). cell_in is_leaf text now.place ≡ Some e) h.text
-        (ap (λ (r : Result (Entry × Ahead) PageFormat). value_of r) (plain_too is_leaf before (ahead now) (e, ahead next) read)) in
+    subst (λ (text : List ℕ). cell_in is_leaf text now.place ≡ Some e) h.text
+    (ap (λ (r : Result (Entry × Ahead) PageFormat). value_of r) (plain_too is_leaf before (ahead now) (e, ahead next) read)) in
     let count : length h.cells ≡ i = cells_count is_leaf i None (ahead from) h.cells (ahead now) h.index.read in
     record {
       cells = h.cells ++ e ∷ [];
@@ -153,24 +153,24 @@ indexed_more is_leaf i from now next before table e h read text lt place at with
         few = omega arith;
         read = rw add-one (cells_more is_leaf i None (ahead from) h.cells (ahead now) e (ahead next) h.index.read here);
         places = below_more _ _
-          (λ k less.
+            (λ k less.
             let other : k ≢ i = omega arith in
             let old : slice_index (set table i place) k ≡ slice_index table k = get_or-set_other table i k place 0 other in
             let same : slice_get h.cells k ≡ slice_get (h.cells ++ e ∷ []) k = sym (slice_get-front h.cells (e ∷ []) k (omega (arith, count))) in
             let before_it : StandsAt is_leaf from.text (slice_index (set table i place) k) (slice_get h.cells k) =
-              subst (λ (n : ℕ). StandsAt is_leaf from.text n (slice_get h.cells k)) (sym old) (h.index.places k less) in
+            subst (λ (n : ℕ). StandsAt is_leaf from.text n (slice_get h.cells k)) (sym old) (h.index.places k less) in
             subst (λ (o : Option Entry). StandsAt is_leaf from.text (slice_index (set table i place) k) o) same before_it)
-          (let new : slice_index (set table i place) i ≡ now.place = get_or-set_same table i place 0 inside ∙ at in
+            (let new : slice_index (set table i place) i ≡ now.place = get_or-set_same table i place 0 inside ∙ at in
             let same : Some e ≡ slice_get (h.cells ++ e ∷ []) i =
-              sym (slice_get-last h.cells e) ∙ ap (λ (n : ℕ). slice_get (h.cells ++ e ∷ []) n) count in
+            sym (slice_get-last h.cells e) ∙ ap (λ (n : ℕ). slice_get (h.cells ++ e ∷ []) n) count in
             let length_is : length now.text ≡ length from.text = ap (λ (xs : List ℕ). length xs) h.text in
             let here_it : StandsAt is_leaf from.text now.place (Some e) = record { within = omega arith; reads = stands } in
             subst (λ (o : Option Entry). StandsAt is_leaf from.text (slice_index (set table i place) i) o) same
-              (subst (λ (n : ℕ). StandsAt is_leaf from.text n (Some e)) (sym new) here_it));
+            (subst (λ (n : ℕ). StandsAt is_leaf from.text n (Some e)) (sym new) here_it));
       };
       last = is ∙ sym (last_bound-push None h.cells e);
       room = omega (arith, h.room, entry_moves is_leaf before (ahead now) (e, ahead next) read);
-          full = length-set table i place ∙ h.full;
+      full = length-set table i place ∙ h.full;
       text = text ∙ h.text;
     }
 
@@ -179,7 +179,7 @@ pub index_ends : (is_leaf : Bool) (i count : ℕ) (from now : Position) (before 
     → cells_at is_leaf count None (ahead from) ≡ Err fault
 index_ends is_leaf i count from now before table fault h read lt =
     let here : entry_at is_leaf (last_bound None h.cells) (ahead now) ≡ Err fault =
-      subst (λ (b : Option Bound). entry_at is_leaf b (ahead now) ≡ Err fault) h.last read in
+    subst (λ (b : Option Bound). entry_at is_leaf b (ahead now) ≡ Err fault) h.last read in
     cells_end is_leaf i count None (ahead from) h.cells (ahead now) fault h.index.read here lt
 
 pub table_of : (is_leaf : Bool) (i : ℕ) (from now : Position) (before : Option Bound) (table : List ℕ)

@@ -74,8 +74,8 @@ pub end_fails : (text : List ℕ) (h : (ℕ × ℕ) × Ahead) (cells : List Entr
 unfolding page_at
 end_fails text h cells e f apart =
     bind_by (head_at (start text)) (after_head text) h (fails cells.1) e
-      (bind_by (cells_at (h.0.0 == 0) h.0.1 None h.1) (after_cells text h.0.0) cells (fails cells.1) f
-        (rw (apart_test cells.1.place (length text) apart) refl))
+    (bind_by (cells_at (h.0.0 == 0) h.0.1 None h.1) (after_cells text h.0.0) cells (fails cells.1) f
+    (rw (apart_test cells.1.place (length text) apart) refl))
 
 pub page_reads : (text : List ℕ) (h : (ℕ × ℕ) × Ahead) (cells : List Entry × Ahead) → head_at (start text) ≡ Ok h
     → cells_at (h.0.0 == 0) h.0.1 None h.1 ≡ Ok cells → cells.1.place ≡ length text
@@ -83,8 +83,8 @@ pub page_reads : (text : List ℕ) (h : (ℕ × ℕ) × Ahead) (cells : List Ent
 unfolding page_at
 page_reads text h cells e f same =
     bind_by (head_at (start text)) (after_head text) h (Ok (record { level = h.0.0; cells = cells.0 })) e
-      (bind_by (cells_at (h.0.0 == 0) h.0.1 None h.1) (after_cells text h.0.0) cells (Ok (record { level = h.0.0; cells = cells.0 })) f
-        (rw (eq-eqb cells.1.place (length text) same) refl))
+    (bind_by (cells_at (h.0.0 == 0) h.0.1 None h.1) (after_cells text h.0.0) cells (Ok (record { level = h.0.0; cells = cells.0 })) f
+    (rw (eq-eqb cells.1.place (length text) same) refl))
 
 -- a text that is read to its end is not cut
 pub whole_text : (text : List ℕ) (n : ℕ) → n ≤ length (take 8192 text) → n ≡ length text → take 8192 text ≡ text
@@ -98,17 +98,17 @@ pub indexed_so : (text : List ℕ) (level count : ℕ) (table : List ℕ) (from 
 indexed_so text level count table from now cut kept within end e made =
     let index : IsIndex (level == 0) count from.text (ahead from) (ahead now) table made.0 = made.1 in
     let read : page_at text ≡ Ok (record { level = level; cells = made.0 }) =
-      page_reads text ((level, count), ahead from) (made.0, ahead now) e index.read end in
+    page_reads text ((level, count), ahead from) (made.0, ahead now) e index.read end in
     let is : content_of text ≡ record { level = level; cells = made.0 } = ap (λ (r : Result Content PageFormat). content_in r) read in
     let whole : from.text ≡ text =
-      cut ∙ whole_text text now.place (omega (arith, within, ap (λ (xs : List ℕ). length xs) kept, ap (λ (xs : List ℕ). length xs) cut)) end in
+    cut ∙ whole_text text now.place (omega (arith, within, ap (λ (xs : List ℕ). length xs) kept, ap (λ (xs : List ℕ). length xs) cut)) end in
     record {
       read = read ∙ ap (λ (c : Content). Ok c) (sym is);
       level = ap (λ (c : Content). c.level) is;
       count = ap (λ (c : Content). length c.cells) is ∙ cells_count_of (level == 0) count from.text (ahead from) (ahead now) table made.0 index;
       few = index.few;
       places = λ k lt.
-        subst (λ (c : Content). StandsAt (level == 0) text (slice_index table k) (slice_get c.cells k)) (sym is)
+          subst (λ (c : Content). StandsAt (level == 0) text (slice_index table k) (slice_get c.cells k)) (sym is)
           (subst (λ (xs : List ℕ). StandsAt (level == 0) xs (slice_index table k) (slice_get made.0 k)) whole (index.places k lt));
     }
 
@@ -135,7 +135,7 @@ pub cell_reads : (text : List ℕ) (level count i : ℕ) (table : List ℕ) (p :
 cell_reads text level count i table p fault h lt t e read =
     let stands : cell_in (level == 0) text (slice_index table i) ≡ slice_get (content_of text).cells i = (h.places i lt).reads in
     let none : slice_get (content_of text).cells i ≡ None =
-      sym stands ∙ ap (λ (a : Ahead). value_of (plain_at (level == 0) a)) (sym (at_place text (slice_index table i) p t e)) ∙ ap (λ (r : Result (Entry × Ahead) PageFormat). value_of r) read in
+    sym stands ∙ ap (λ (a : Ahead). value_of (plain_at (level == 0) a)) (sym (at_place text (slice_index table i) p t e)) ∙ ap (λ (r : Result (Entry × Ahead) PageFormat). value_of r) read in
     slice_get-within (content_of text).cells i (omega (arith, h.count)) none
 
 pub end_failed : (text : List ℕ) (level count : ℕ) (from now : Position) (table : List ℕ) (place : ℕ) → Opened text level count from
@@ -183,7 +183,7 @@ head_takes a h fits e =
     let level = number_takes w8 (2 ^ 8) wide8 f.0.1 l.0.0 l.0.1 format.0.rest_fits l.1 in
     let count = number_takes w16 (2 ^ 16) wide16 l.0.1 n.0.0 n.0.1 level.0.rest_fits n.1 in
     let one : Takes a (1 ∷ []) f.0.1 =
-      subst (λ (xs : List ℕ). Takes a xs f.0.1) (byte_is f.0.0 format.1 ∙ ap (λ (x : ℕ). x ∷ []) (eqb-true f.0.0 1 t.0)) format.0 in
+    subst (λ (xs : List ℕ). Takes a xs f.0.1) (byte_is f.0.0 format.1 ∙ ap (λ (x : ℕ). x ∷ []) (eqb-true f.0.0 1 t.0)) format.0 in
     let two : Takes f.0.1 (l.0.0 ∷ []) l.0.1 = subst (λ (xs : List ℕ). Takes f.0.1 xs l.0.1) (byte_is l.0.0 level.1) level.0 in
     let both = Takes-then f.0.1 (l.0.0 ∷ []) l.0.1 (to_be_bytes w16 n.0.0) n.0.1 two count.0 in
     let whole = Takes-then a (1 ∷ []) f.0.1 (l.0.0 ∷ to_be_bytes w16 n.0.0) n.0.1 one both in
@@ -203,16 +203,16 @@ page_found text content fits e =
     let both = Takes-then (start text) (head h.0.0.0 h.0.0.1) h.0.1 (flat_map entry_spelling k.0.0) k.0.1 front.takes back.0 in
     let end : k.0.1.place ≡ length text = eqb-true k.0.1.place (length text) t.0 in
     let spelled : spelling made ≡ head h.0.0.0 h.0.0.1 ++ flat_map entry_spelling k.0.0 =
-      ap (λ (n : ℕ). head h.0.0.0 n ++ flat_map entry_spelling k.0.0) back.1.1 in
+    ap (λ (n : ℕ). head h.0.0.0 n ++ flat_map entry_spelling k.0.0) back.1.1 in
     let len : length (spelling made) ≡ length text = ap (λ (xs : List ℕ). length xs) spelled ∙ (omega (arith, both.place) ∙ end) in
     let cut : length (take 8192 text) ≡ length (spelling made) + length k.0.1.bytes =
-      ap (λ (xs : List ℕ). length xs) both.parts ∙ (length-append (head h.0.0.0 h.0.0.1 ++ flat_map entry_spelling k.0.0) k.0.1.bytes ∙ ap (λ (n : ℕ). n + length k.0.1.bytes) (sym (ap (λ (xs : List ℕ). length xs) spelled))) in
+    ap (λ (xs : List ℕ). length xs) both.parts ∙ (length-append (head h.0.0.0 h.0.0.1 ++ flat_map entry_spelling k.0.0) k.0.1.bytes ∙ ap (λ (n : ℕ). n + length k.0.1.bytes) (sym (ap (λ (xs : List ℕ). length xs) spelled))) in
     let short : length text ≤ 8192 = omega (arith, length-take 8192 text) in
     let nothing : k.0.1.bytes ≡ [] = no_bytes k.0.1.bytes (omega (arith, length-take 8192 text)) in
     let is : spelling made ≡ text =
-      spelled ∙ (sym (append-nil (head h.0.0.0 h.0.0.1 ++ flat_map entry_spelling k.0.0))
-        ∙ (ap (λ (xs : List ℕ). (head h.0.0.0 h.0.0.1 ++ flat_map entry_spelling k.0.0) ++ xs) (sym nothing)
-        ∙ (sym both.parts ∙ take_all 8192 text short))) in
+    spelled ∙ (sym (append-nil (head h.0.0.0 h.0.0.1 ++ flat_map entry_spelling k.0.0))
+    ∙ (ap (λ (xs : List ℕ). (head h.0.0.0 h.0.0.1 ++ flat_map entry_spelling k.0.0) ++ xs) (sym nothing)
+    ∙ (sym both.parts ∙ take_all 8192 text short))) in
     let spells : Spells made text = record {
       rules = record { level = front.level; cells = back.1.0; least = λ more. omega (arith, front.least more, back.1.1); size = omega (arith, len) };
       text = is;
@@ -241,12 +241,12 @@ head_again level count a rest lt small_count least e =
     let l = number_again w8 (2 ^ 8) wide8 level a1 rest2 lt (ap (λ (xs : List ℕ). xs ++ rest2) (sym (byte_is level lt))) in
     let n = number_again w16 (2 ^ 16) wide16 count a2 rest small_count refl in
     let place : a3 ≡ past a (head level count) rest =
-      ap (λ (k : ℕ). let made : Ahead = record { place = k; bytes = rest } in made) (omega arith) in
+    ap (λ (k : ℕ). let made : Ahead = record { place = k; bytes = rest } in made) (omega arith) in
     let result : Result ((ℕ × ℕ) × Ahead) PageFormat = Ok ((level, count), past a (head level count) rest) in
     bind_by (number_at w8 a) (λ format. cond (format.0 == 1) (number_at w8 format.1 >>= λ level. number_at w16 level.1 >>= λ count. after_count level count) (fails a)) (1, a1) result f
-      (bind_by (number_at w8 a1) (λ level. number_at w16 level.1 >>= λ count. after_count level count) (level, a2) result l
-        (bind_by (number_at w16 a2) (λ count. after_count (level, a2) count) (count, a3) result n
-          (rw (test_from_least level count least) (ap (λ (b : Ahead). Ok ((level, count), b)) place))))
+    (bind_by (number_at w8 a1) (λ level. number_at w16 level.1 >>= λ count. after_count level count) (level, a2) result l
+    (bind_by (number_at w16 a2) (λ count. after_count (level, a2) count) (count, a3) result n
+    (rw (test_from_least level count least) (ap (λ (b : Ahead). Ok ((level, count), b)) place))))
 
 -- a text that is spelled so reads as that page
 pub page_only : (text : List ℕ) (content : Content) → Spells content text → page_at text ≡ Ok content
@@ -259,8 +259,8 @@ page_only text content h =
     let front = head_again content.level (length content.cells) (start text) body h.rules.level count h.rules.least whole in
     let cells = cells_again (content.level == 0) None content.cells (past (start text) (head content.level (length content.cells)) body) [] h.rules.cells (sym (append-nil body)) in
     page_reads text ((content.level, length content.cells), past (start text) (head content.level (length content.cells)) body)
-      (content.cells, past (past (start text) (head content.level (length content.cells)) body) body []) front cells
-      (omega (arith, length-append (head content.level (length content.cells)) body))
+    (content.cells, past (past (start text) (head content.level (length content.cells)) body) body []) front cells
+    (omega (arith, length-append (head content.level (length content.cells)) body))
 
 -- a text that does not read is spelled by no page
 pub only_fails : (text : List ℕ) (fault : PageFormat) → page_at text ≡ Err fault → (content : Content) → Spells content text → ⊥

@@ -117,7 +117,13 @@ impl PageBuilder {
 
     /// Adds a record to a leaf. `TooBig` exactly where the page would then pass 8,192 bytes, and
     /// then nothing changed.
-    pub fn add_leaf(&mut self, key: &[u8], birth: u64, death: u64, value: &[u8]) -> Result<(), TooBig>
+    pub fn add_leaf(
+        &mut self,
+        key: &[u8],
+        birth: u64,
+        death: u64,
+        value: &[u8],
+    ) -> Result<(), TooBig>
         requires { IsNext self.old (leaf_entry key.now birth death value.now) }
         ensures ok { OnOk result (self.new ≡ with_cell self.old (leaf_entry key.now birth death value.now)) }
         ensures too_big { IsErr result
@@ -154,7 +160,11 @@ impl PageBuilder {
         requires { 0 < self.level → 2 ≤ length self.cells }
         ensures { IfOk result (λ page. Spells self page) }
     {
-        let PageBuilder { count, mut bytes, .. } = self;
+        let PageBuilder {
+            count,
+            mut bytes,
+            ..
+        } = self;
         set_count(&mut bytes, count);
         let end = bytes.len();
         let bytes = bytes.freeze_to(end)?;

@@ -14,3 +14,7 @@ mod view;
 pub use builder::{PageBuilder, TooBig};
 pub use cell::Cell;
 pub use format::PageFormat;
+pub use view::PageView;
+
+#[cfg(test)]
+mod tests;

@@ -16,7 +16,6 @@ const KEY_LIMIT: usize = 264;
 /// The longest value.
 const VALUE_LIMIT: usize = 1200;
 
-
 /// The next bytes, this many.
 #[tactic(auto, unfolding(crate::specs::Reading::part_at))]
 fn part<'a>(cursor: &mut Cursor<'a>, n: usize) -> Result<&'a [u8], PageFormat>
@@ -89,18 +88,32 @@ fn string<'a>(cursor: &mut Cursor<'a>, limit: usize) -> Result<&'a [u8], PageFor
 
 /// The rest of a cell whose key and birth were read.
 #[tactic(auto, unfolding(crate::specs::Reading::rest_at, crate::specs::Reading::body_at))]
-fn rest<'a>(cursor: &mut Cursor<'a>, is_leaf: bool, key: &'a [u8], birth: u64) -> Result<Cell<'a>, PageFormat>
+fn rest<'a>(
+    cursor: &mut Cursor<'a>,
+    is_leaf: bool,
+    key: &'a [u8],
+    birth: u64,
+) -> Result<Cell<'a>, PageFormat>
     ensures gives { Gives (λ cell. (entry_of cell)) (rest_at is_leaf key.now birth) cursor.old cursor.new result }
     ensures text { cursor.new.text ≡ cursor.old.text }
 {
     if is_leaf {
         let death = hyper(cursor)?;
         let value = string(cursor, VALUE_LIMIT)?;
-        Ok(Cell::Leaf { key, birth, death, value })
+        Ok(Cell::Leaf {
+            key,
+            birth,
+            death,
+            value,
+        })
     } else {
         let store = word(cursor)?;
         let number = hyper(cursor)?;
-        Ok(Cell::Inner { key, birth, child: Slot { store, number } })
+        Ok(Cell::Inner {
+            key,
+            birth,
+            child: Slot { store, number },
+        })
     }
 }
 
@@ -118,12 +131,20 @@ fn may_follow(is_leaf: bool, before: Option<Bound<'_>>, key: &[u8], birth: u64) 
 fn key_limit(is_leaf: bool, before: Option<Bound<'_>>) -> usize
     ensures { result ≡ key_limit is_leaf (edge_of before.entry) }
 {
-    if !is_leaf && before.is_none() { 0 } else { KEY_LIMIT }
+    if !is_leaf && before.is_none() {
+        0
+    } else {
+        KEY_LIMIT
+    }
 }
 
 /// The next cell.
 #[tactic(auto, unfolding(crate::specs::Reading::entry_at))]
-pub(crate) fn cell<'a>(cursor: &mut Cursor<'a>, is_leaf: bool, before: Option<Bound<'_>>) -> Result<Cell<'a>, PageFormat>
+pub(crate) fn cell<'a>(
+    cursor: &mut Cursor<'a>,
+    is_leaf: bool,
+    before: Option<Bound<'_>>,
+) -> Result<Cell<'a>, PageFormat>
     ensures gives { Gives (λ cell. entry_of cell) (entry_at is_leaf (edge_of before.entry)) cursor.old cursor.new result }
     ensures text { cursor.new.text ≡ cursor.old.text }
 {

@@ -26,7 +26,11 @@ fn front(text: &[u8]) -> &[u8]
 }
 
 /// Reads this many cells, and answers the place of each.
-fn index(cursor: &mut Cursor<'_>, is_leaf: bool, count: usize) -> Result<[u16; CELL_ROOM], PageFormat>
+fn index(
+    cursor: &mut Cursor<'_>,
+    is_leaf: bool,
+    count: usize,
+) -> Result<[u16; CELL_ROOM], PageFormat>
     requires { length cursor.old.text ≤ 8192 }
     ensures table { IfOk result (λ places. IsTable is_leaf count cursor.old cursor.new places) }
     ensures fault { IfErr result (λ fault. cells_at is_leaf count None (ahead cursor.old) ≡ Err fault) }

@@ -8,19 +8,19 @@ use Rattle.btree_page.proofs.view.PageView.of.Goals as goal
 pub index-requires : goal.index-requires
 index-requires c =
     opened-short c.args.p.now c.in-Ok.head.0 c.in-Ok.head.1 c.head.new.cursor
-      (opened _ _ _ _ _ _ c.new-cursor.ensures c.front.ensures c.in-Ok.ensures.gives c.in-Ok.ensures.text)
+    (opened _ _ _ _ _ _ c.new-cursor.ensures c.front.ensures c.in-Ok.ensures.gives c.in-Ok.ensures.text)
 
 pub returns-in-Err : goal.returns-in-Err
 returns-in-Err c =
     let exact = head_fails c.args.p.now c.in-Err.fault
-      (subst (λ (a : Ahead). head_at a ≡ Err c.in-Err.fault) (start_is _ _ _ c.new-cursor.ensures c.front.ensures) c.in-Err.ensures.gives) in
+    (subst (λ (a : Ahead). head_at a ≡ Err c.in-Err.fault) (start_is _ _ _ c.new-cursor.ensures c.front.ensures) c.in-Err.ensures.gives) in
     record { found = tt; only = only_fails c.args.p.now c.in-Err.fault exact; exact = exact }
 
 pub returns-in-Err-index : goal.returns-in-Err-index
 returns-in-Err-index c =
     let h = opened _ _ _ _ _ _ c.new-cursor.ensures c.front.ensures c.in-Ok.ensures.gives c.in-Ok.ensures.text in
     let exact = cells_fail c.args.p.now ((c.in-Ok.head.0, c.in-Ok.head.1), ahead c.head.new.cursor) c.in-Err-index.fault h.read
-      (subst (λ (n : ℕ). cells_at (c.in-Ok.head.0 == 0) n None (ahead c.head.new.cursor) ≡ Err c.in-Err-index.fault) c.from.ensures c.in-Err-index.ensures.fault) in
+    (subst (λ (n : ℕ). cells_at (c.in-Ok.head.0 == 0) n None (ahead c.head.new.cursor) ≡ Err c.in-Err-index.fault) c.from.ensures c.in-Err-index.ensures.fault) in
     record { found = tt; only = only_fails c.args.p.now c.in-Err-index.fault exact; exact = exact }
 
 pub returns-then-end-p : goal.returns-then-end-p
@@ -36,7 +36,7 @@ invariant_of-result c =
     let table = subst (λ (n : ℕ). IsTable (c.in-Ok.head.0 == 0) n c.head.new.cursor c.index.new.cursor c.in-Ok-index.places) c.from.ensures c.in-Ok-index.ensures.table in
     let within : c.index.new.cursor.place ≤ length c.index.new.cursor.text = omega (arith, c.place-end.ensures.place, c.place-end.ensures.within) in
     indexed_so c.args.p.now c.in-Ok.head.0 c.in-Ok.head.1 c.in-Ok-index.places c.head.new.cursor c.index.new.cursor h.cut
-      c.in-Ok-index.ensures.text within (sym c.place-end.ensures.place ∙ c.if-end-p.false) h.read table
+    c.in-Ok-index.ensures.text within (sym c.place-end.ensures.place ∙ c.if-end-p.false) h.read table
 
 pub returns : goal.returns
 returns c =
