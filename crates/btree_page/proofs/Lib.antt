@@ -2,4 +2,5 @@ pub mod Built
 pub mod Cells
 pub mod Fields
 pub mod Index
+pub mod Trees
 pub mod Whole

@@ -8,12 +8,14 @@
 mod builder;
 mod cell;
 mod format;
+mod laws;
 mod reading;
 mod view;
 
 pub use builder::{PageBuilder, TooBig};
 pub use cell::Cell;
 pub use format::PageFormat;
+pub use laws::{keeps_trees, one_content, one_list, reaches_pages};
 pub use view::PageView;
 
 #[cfg(test)]

@@ -107,19 +107,3 @@ fn pages_are_built(rt: HostRuntime) -> Result<(), Fail> {
     );
     Ok(())
 }
-
-#[test]
-fn five_of_the_largest_cells_fit_and_six_do_not(rt: HostRuntime) -> Result<(), Fail> {
-    let value = [0; 1200];
-    let mut page = PageBuilder::new(rt.alloc(), 0)?;
-    page.add_leaf(&[1; 264], 0, 1, &value)?;
-    page.add_leaf(&[2; 264], 0, 1, &value)?;
-    page.add_leaf(&[3; 264], 0, 1, &value)?;
-    page.add_leaf(&[4; 264], 0, 1, &value)?;
-    page.add_leaf(&[5; 264], 0, 1, &value)?;
-    assert_eq!(rt; page.add_leaf(&[6; 264], 0, 1, &value), Err(TooBig));
-    let page = page.finish()?;
-    assert_eq!(rt; page.len(), 4 + 5 * (20 + 264 + 1200));
-    assert!(rt; PageView::of(page.as_slice()).is_ok());
-    Ok(())
-}
