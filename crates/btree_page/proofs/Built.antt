@@ -1,15 +1,14 @@
 -- A page that is being built, and what one cell more makes of it.
-use Rattle.std.proofs.Common.{◌≡◌, ℕ, ◌+◌, ◌<◌, ◌≤◌, Bool, true, false, List, [], ◌∷◌, ◌++◌, length, drop, Option, Some, None, Result, Ok, Err, refl, sym, ap, subst, ◌∙◌, arith, append_assoc}
+use Rattle.std.proofs.Common.{◌≡◌, ℕ, ◌+◌, ◌<◌, ◌≤◌, Bool, true, false, List, [], ◌∷◌, ◌++◌, length, None, Result, sym, ap, subst, ◌∙◌, arith, append_assoc}
 use Rattle.std.specs.Prelude.{◌==◌}
 use Rattle.std.specs.List.{flat_map}
 use Rattle.std.specs.Int.{w16, w32, w64, to_be_bytes}
 use Rattle.std.proofs.lemmas.List.{length-append, append-nil}
 use Rattle.pair_types.specs.declared.slot.Slot.{Slot}
 use Rattle.btree_page.specs.declared.format.PageFormat.{PageFormat}
-use Rattle.btree_page.specs.Content.{Bound, Body, Carries, Leads, Entry, Content, string, head, spelling, entry_spelling, Fits, FitsBody, AreCells, IsPage, Spells, last_bound, IsNext, with_cell, leaf_entry, inner_entry}
-use Rattle.btree_page.specs.Reading.{Ahead, cells_at, from_place}
+use Rattle.btree_page.specs.Content.{Carries, Entry, Content, string, head, spelling, entry_spelling, FitsBody, AreCells, Spells, IsNext, with_cell, leaf_entry, inner_entry}
+use Rattle.btree_page.specs.Reading.{Ahead, from_place}
 use Rattle.btree_page.specs.Builder.{built, cells_in, IsBuilt, with_count}
-use Rattle.btree_page.proofs.Fields.{past}
 use Rattle.btree_page.proofs.Cells.{cells_again, cells_many, AreCells-push}
 
 flat_map-push : (cells : List Entry) (e : Entry) → flat_map entry_spelling (cells ++ e ∷ []) ≡ flat_map entry_spelling cells ++ entry_spelling e

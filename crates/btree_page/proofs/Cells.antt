@@ -1,6 +1,5 @@
 -- A cell that is read is the cell that was written, and what was written is read again; so are lists of cells.
-use Rattle.std.proofs.Common.{◌≡◌, ℕ, zero, suc, ◌+◌, ◌^◌, ◌<◌, ◌≤◌, Bool, true, false, cond, ltb, List, [], ◌∷◌, ◌++◌, length, get_or, take, drop, Option, Some, None, Result, Ok, Err, refl, sym, ap, subst, ◌∙◌, append_assoc, arith, inl, inr}
-use Rattle.std.specs.Prelude.{◌==◌}
+use Rattle.std.proofs.Common.{◌≡◌, ℕ, zero, suc, ◌+◌, ◌^◌, ◌<◌, ◌≤◌, Bool, true, false, cond, List, [], ◌∷◌, ◌++◌, length, Option, Some, None, Ok, Err, refl, sym, ap, subst, ◌∙◌, append_assoc, arith}
 use Rattle.std.specs.List.{flat_map}
 use Rattle.std.specs.Int.{w16, w32, w64, to_be_bytes}
 use Rattle.std.specs.Ordering.{is_lt}
@@ -11,7 +10,7 @@ use Rattle.std.proofs.lemmas.Bool.{eqb-true, eq-eqb}
 use Rattle.pair_types.specs.declared.slot.Slot.{Slot}
 use Rattle.btree_page.specs.declared.format.PageFormat.{PageFormat}
 use Rattle.btree_page.specs.declared.format.PageFormat.TheVariants.{Malformed}
-use Rattle.btree_page.specs.Content.{Bound, bound_cmp, IsBelow, Body, Carries, Leads, Entry, bound_of, string, body_spelling, entry_spelling, Fits, FitsBody, Follows, AreCells, last_bound}
+use Rattle.btree_page.specs.Content.{Bound, Body, Carries, Leads, Entry, bound_of, string, body_spelling, entry_spelling, Fits, FitsBody, Follows, AreCells, last_bound}
 use Rattle.btree_page.specs.Reading.{◌>>=◌, Ahead, fails, number_at, string_at, body_at, rest_at, entry_at, cells_at, key_limit, may_follow}
 use Rattle.btree_page.proofs.Fields.{IsBytes, bind_ok, bind_by, bind_err, test_ok, ok_is, Takes, Takes-then, past, past-then, wide32, wide64, number_takes, number_again, string_takes, string_again}
 

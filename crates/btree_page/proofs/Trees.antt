@@ -1,10 +1,10 @@
 -- The laws of trees: what keeps a tree, that it reaches no absent slot, and that it is unique.
-use Rattle.std.proofs.Common.{◌≡◌, ℕ, zero, suc, ◌≤◌, ◌⊎◌, inl, inr, ⊎_elim, List, [], ◌∷◌, ◌++◌, map, Option, Some, None, IsSome, refl, sym, ap, subst, ◌∙◌, arith}
+use Rattle.std.proofs.Common.{◌≡◌, ℕ, zero, suc, ◌⊎◌, inl, inr, ⊎_elim, List, [], ◌∷◌, ◌++◌, map, Option, Some, None, IsSome, refl, sym, ap, subst, ◌∙◌}
 use Rattle.pair_types.specs.declared.slot.Slot.{Slot}
 use Rattle.pair_types.specs.declared.quad.Quad.{Quad}
 use Rattle.pair_types.specs.PageMaps.{PageMap}
-use Rattle.btree_page.specs.Content.{Bound, Carries, Leads, Body, Entry, Content, Spells, leaf_entry, inner_entry}
-use Rattle.btree_page.specs.Tree.{Holds, Among, IsLeaf, quad_cell, Child, child_cell, Join, Kids, IsInner, Subtree, root, least, IsFormed, KeepsTrees, ReachesPages, HasOneList, HasOneContent}
+use Rattle.btree_page.specs.Content.{Bound, Carries, Leads, Body, Entry, Content, Spells, inner_entry}
+use Rattle.btree_page.specs.Tree.{Holds, Among, quad_cell, Child, child_cell, Kids, Subtree, root, least, KeepsTrees, ReachesPages, HasOneList, HasOneContent}
 use Rattle.btree_page.proofs.Whole.{one_content}
 
 pub has_one_content : HasOneContent
@@ -38,7 +38,7 @@ kids_keep : (p q : PageMap) (level : ℕ) (keep : (slot : Slot) (low : Bound) (h
 kids_keep p q level keep [] first low high quads slots h same = keep first low high quads slots h same
 kids_keep p q level keep (next ∷ rest) first low high quads slots h same =
     let there : (s : Slot) → Among s (h.slots_left ++ h.slots_right) → q s ≡ p s =
-      subst (λ (ss : List Slot). (s : Slot) → Among s ss → q s ≡ p s) h.all_slots same in
+    subst (λ (ss : List Slot). (s : Slot) → Among s ss → q s ≡ p s) h.all_slots same in
     record {
       quads_left = h.quads_left;
       quads_right = h.quads_right;
@@ -80,18 +80,18 @@ kids_present : (p : PageMap) (level : ℕ) (present : (slot : Slot) (low : Bound
 kids_present p level present [] first low high quads slots h s here = present first low high quads slots h s here
 kids_present p level present (next ∷ rest) first low high quads slots h s here =
     ⊎_elim
-      (λ l. present first low (Some next.bound) h.quads_left h.slots_left h.left s l)
-      (λ r. kids_present p level present rest next.slot next.bound high h.quads_right h.slots_right h.right s r)
-      (among_either s h.slots_left h.slots_right (subst (λ (ss : List Slot). Among s ss) h.all_slots here))
+    (λ l. present first low (Some next.bound) h.quads_left h.slots_left h.left s l)
+    (λ r. kids_present p level present rest next.slot next.bound high h.quads_right h.slots_right h.right s r)
+    (among_either s h.slots_left h.slots_right (subst (λ (ss : List Slot). Among s ss) h.all_slots here))
 
 pub reaches_pages : ReachesPages
 reaches_pages p zero slot low high quads slots h s here =
     ⊎_elim (λ e. some_page p slot _ s h.page e) (λ no. absurd no) (subst (λ (ss : List Slot). Among s ss) h.reached here)
 reaches_pages p (suc level) slot low high quads slots h s here =
     ⊎_elim
-      (λ e. some_page p slot _ s h.page e)
-      (λ more. kids_present p level (reaches_pages p level) h.rest h.first low high quads h.below h.kids s more)
-      (subst (λ (ss : List Slot). Among s ss) h.reached here)
+    (λ e. some_page p slot _ s h.page e)
+    (λ more. kids_present p level (reaches_pages p level) h.rest h.first low high quads h.below h.kids s more)
+    (subst (λ (ss : List Slot). Among s ss) h.reached here)
 
 -- ---- uniqueness
 
@@ -174,8 +174,7 @@ kids_same : (p : PageMap) (level : ℕ) (same : (slot : Slot) (low : Bound) (hig
 kids_same p level same [] first low high quads quads' slots slots' h k = same first low high quads quads' slots slots' h k
 kids_same p level same (next ∷ rest) first low high quads quads' slots slots' h k =
     let l = same first low (Some next.bound) h.quads_left k.quads_left h.slots_left k.slots_left h.left k.left in
-    let r = kids_same p level same rest next.slot next.bound high h.quads_right k.quads_right h.slots_right k.slots_right h.right k.right in
-    (
+    let r = kids_same p level same rest next.slot next.bound high h.quads_right k.quads_right h.slots_right k.slots_right h.right k.right in (
       h.all_quads ∙ (both_lists h.quads_left k.quads_left h.quads_right k.quads_right l.0 r.0 ∙ sym k.all_quads),
       h.all_slots ∙ (both_slots h.slots_left k.slots_left h.slots_right k.slots_right l.1 r.1 ∙ sym k.all_slots),
     )
@@ -192,7 +191,7 @@ subtrees_same p (suc level) slot low high quads quads' slots slots' h k =
     let cells : cells_of_children c ≡ cells_of_children d = ap (λ (x : Content). x.cells) (same_content p slot _ _ h.page k.page) in
     let is : d ≡ c = sym (same_children c d cells) in
     let kids : Kids (Subtree p level) h.first low h.rest high quads' k.below =
-      subst (λ (x : Children). Kids (Subtree p level) x.first low x.rest high quads' k.below) is k.kids in
+    subst (λ (x : Children). Kids (Subtree p level) x.first low x.rest high quads' k.below) is k.kids in
     let both = kids_same p level (subtrees_same p level) h.rest h.first low high quads quads' h.below k.below h.kids kids in
     (both.0, h.reached ∙ (ap (λ (ss : List Slot). slot ∷ ss) both.1 ∙ sym k.reached))
 
@@ -208,5 +207,5 @@ one_list stores p quads quads' slots slots' h k =
     let b = root_content p k.level root least None quads' slots' k.tree in
     let level : k.level ≡ h.level = sym (ap (λ (c : Content). c.level) (same_content p root _ _ a.1 b.1)) in
     let tree : Subtree p h.level root least None quads' slots' =
-      subst (λ (n : ℕ). Subtree p n root least None quads' slots') level k.tree in
+    subst (λ (n : ℕ). Subtree p n root least None quads' slots') level k.tree in
     subtrees_same p h.level root least None quads quads' slots slots' h.tree tree

@@ -1,5 +1,5 @@
 -- A whole page: how it is read step by step, and that it reads exactly where it is spelled so.
-use Rattle.std.proofs.Common.{◌≡◌, ◌≢◌, ℕ, zero, suc, ◌+◌, ◌^◌, ◌<◌, ◌≤◌, ◌||◌, Bool, true, false, cond, List, [], ◌∷◌, ◌++◌, length, take, drop, get_or, Option, Some, None, Result, Ok, Err, refl, sym, ap, subst, ◌∙◌, arith, append_assoc, inl, inr, min, ⊎_elim}
+use Rattle.std.proofs.Common.{◌≡◌, ◌≢◌, ℕ, zero, suc, ◌+◌, ◌^◌, ◌<◌, ◌≤◌, ◌||◌, Bool, true, false, cond, List, [], ◌∷◌, ◌++◌, length, take, Option, Some, None, Result, Ok, Err, refl, sym, ap, subst, ◌∙◌, arith, inl, inr, min, ⊎_elim}
 use Rattle.std.specs.Prelude.{◌==◌, is_some, OnSome, nat_le, slice_get, slice_index}
 use Rattle.std.specs.List.{flat_map}
 use Rattle.std.specs.Int.{w8, w16, to_be_bytes}
@@ -9,7 +9,7 @@ use Rattle.std.proofs.lemmas.List.{length-append, length-take, take_all, append-
 use Rattle.cursor.specs.Position.{Position}
 use Rattle.btree_page.specs.declared.format.PageFormat.{PageFormat}
 use Rattle.btree_page.specs.declared.format.PageFormat.TheVariants.{Malformed}
-use Rattle.btree_page.specs.Content.{Bound, bound_of, Entry, Content, head, spelling, entry_spelling, AreCells, IsPage, Spells}
+use Rattle.btree_page.specs.Content.{Entry, Content, head, spelling, entry_spelling, Spells}
 use Rattle.btree_page.specs.Reading.{◌>>=◌, Ahead, ahead, fails, number_at, head_at, cells_at, plain_at, page_at, from_place, value_of, cell_in}
 use Rattle.btree_page.specs.View.{StandsAt, IsIndex, IsTable, content_in, content_of, IsIndexed}
 use Rattle.btree_page.proofs.Fields.{IsBytes, IsBytes-take, small, bind_ok, bind_by, bind_err, test_ok, ok_is, Takes, Takes-then, past, wide8, wide16, number_takes, number_again}

@@ -1,9 +1,9 @@
 -- What a page that is being built stands for: its level, and the cells that its bytes spell.
-use Rattle.std.specs.Prelude.{ℕ, ◌≡◌, ◌<◌, ◌≤◌, ◌+◌, ◌==◌, Bool, List, [], ◌∷◌, length, slice_set, slice_index, None, Result, Ok, Err}
+use Rattle.std.specs.Prelude.{ℕ, ◌≡◌, ◌<◌, ◌≤◌, ◌+◌, ◌==◌, List, [], ◌∷◌, length, slice_set, slice_index, None, Result, Ok, Err}
 use Rattle.std.specs.List.{flat_map}
 use Rattle.std.specs.Int.{w16, to_be_bytes}
 use Rattle.btree_page.specs.declared.format.PageFormat.{PageFormat}
-use Rattle.btree_page.specs.Content.{Entry, entry_spelling, AreCells, Content}
+use Rattle.btree_page.specs.Content.{Entry, entry_spelling, AreCells}
 use Rattle.btree_page.specs.Reading.{Ahead, cells_at, from_place}
 
 abbrev pub cells_in : Result (List Entry × Ahead) PageFormat → List Entry

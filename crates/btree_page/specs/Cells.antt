@@ -1,9 +1,9 @@
 -- The code's cells and bounds, as contents of pages.
-use Rattle.std.specs.Prelude.{ℕ, Option, Some, None}
+use Rattle.std.specs.Prelude.{Option, Some, None}
 use Rattle.btree_page.specs.declared.cell.Cell.{Cell}
 use Rattle.btree_page.specs.declared.cell.Cell.TheVariants.{Leaf, Inner}
 use Rattle.btree_page.specs.declared.cell.Bound.{Bound as Edge}
-use Rattle.btree_page.specs.Content.{Bound, Body, Carries, Leads, Entry}
+use Rattle.btree_page.specs.Content.{Bound, Carries, Leads, Entry}
 
 abbrev pub entry_of : Cell → Entry
 entry_of (Leaf key birth death value) = record { key = key.now; birth = birth; body = Carries death value.now }

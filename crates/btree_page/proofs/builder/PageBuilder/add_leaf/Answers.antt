@@ -1,4 +1,4 @@
-use Rattle.std.proofs.Common.{◌≡◌, ◌+◌, ◌<◌, ◌≤◌, ℕ, length, arith}
+use Rattle.std.proofs.Common.{◌≡◌, ◌+◌, ◌<◌, length, arith}
 use Rattle.btree_page.specs.Content.{Entry, leaf_entry, entry_spelling}
 use Rattle.btree_page.proofs.Built.{added, size_with, leaf_size, few, value_short}
 use Rattle.btree_page.proofs.builder.PageBuilder.add_leaf.Goals as goal

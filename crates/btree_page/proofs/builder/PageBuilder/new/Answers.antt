@@ -1,6 +1,5 @@
-use Rattle.std.proofs.Common.{◌≡◌, ◌<◌, ◌++◌, ◌∷◌, [], ℕ, List, length, refl, ap, ◌∙◌, arith}
+use Rattle.std.proofs.Common.{◌≡◌, ◌++◌, ◌∷◌, [], ℕ, List, length, refl, ap, ◌∙◌, arith}
 use Rattle.btree_page.specs.Content.{Content, Entry}
-use Rattle.btree_page.specs.Builder.{IsBuilt, built}
 use Rattle.btree_page.proofs.Built.{is_built}
 use Rattle.btree_page.proofs.builder.PageBuilder.new.Goals as goal
 

@@ -1,7 +1,6 @@
-use Rattle.std.proofs.Common.{◌≡◌, ◌+◌, ◌<◌, ◌≤◌, ℕ, arith, sym, ap, ◌∙◌}
-use Rattle.std.specs.Prelude.{slice_index}
+use Rattle.std.proofs.Common.{◌+◌, ◌<◌, arith, ap, ◌∙◌}
 use Rattle.cursor.specs.Position.{Position}
-use Rattle.btree_page.proofs.Whole.{cell_is, cell_reads, moved}
+use Rattle.btree_page.proofs.Whole.{cell_reads, moved}
 use Rattle.btree_page.proofs.view.PageView.cell.Goals as goal
 
 pub bounds-self-inside-i : goal.bounds-self-inside-i

@@ -1,8 +1,8 @@
-use Rattle.std.proofs.Common.{◌≡◌, ◌≢◌, ◌≤◌, ◌==◌, ℕ, List, None, Ok, Err, length, refl, sym, ap, subst, ◌∙◌, arith}
+use Rattle.std.proofs.Common.{◌≡◌, ◌≤◌, ◌==◌, ℕ, None, Err, length, sym, subst, ◌∙◌, arith}
 use Rattle.btree_page.specs.Reading.{Ahead, ahead, head_at, cells_at}
 use Rattle.btree_page.specs.declared.format.PageFormat.TheVariants.{Malformed}
 use Rattle.btree_page.specs.View.{IsTable}
-use Rattle.btree_page.proofs.Whole.{Opened, opened, opened-short, start, start_is, head_fails, cells_fail, end_failed, indexed_so, page_found, only_fails, only_reads}
+use Rattle.btree_page.proofs.Whole.{opened, opened-short, start_is, head_fails, cells_fail, end_failed, indexed_so, page_found, only_fails, only_reads}
 use Rattle.btree_page.proofs.view.PageView.of.Goals as goal
 
 pub index-requires : goal.index-requires
