@@ -1,0 +1,6 @@
+pub mod Built
+pub mod Cells
+pub mod Fields
+pub mod Index
+pub mod Trees
+pub mod Whole

@@ -1,0 +1,4 @@
+pub mod MemPages
+pub mod MemPagesSound
+pub mod PageMaps
+pub mod PageState
