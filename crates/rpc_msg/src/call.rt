@@ -89,7 +89,7 @@ pub fn read_call(text: &[u8]) -> Result<CallHead<'_>, HeadFault>
         prog: words.prog,
         vers: words.vers,
         procedure: words.procedure,
-        tail: reader.into_rest(),
+        tail: reader.rest(),
     })
 }
 

@@ -1,9 +1,9 @@
 -- Steps of answering: one record, and records in a row.
-use Rattle.std.proofs.Common.{◌≡◌, ℕ, ◌+◌, ◌-◌, ◌^◌, ◌<◌, ◌≤◌, Bool, true, false, cond, List, [], ◌∷◌, ◌++◌, length, take, drop, count_by, Option, Some, None, unwrap_or, refl, sym, ◌∙◌, ap, arith, append_assoc, inl, inr, ◌⊎◌, subst, rules}
+use Rattle.std.proofs.Common.{◌≡◌, ℕ, ◌+◌, ◌-◌, ◌^◌, ◌≤◌, Bool, cond, List, [], ◌∷◌, ◌++◌, length, take, drop, count_by, Option, Some, None, unwrap_or, refl, sym, ◌∙◌, ap, arith, append_assoc, inl, inr, subst}
 use Rattle.std.specs.List.{flat_map, AllByRecursion}
 use Rattle.std.proofs.lemmas.List.{append-nil, length-append, take-append-drop, take_rest}
 use Rattle.std.proofs.lemmas.List.Sums.{sum_by-append}
-use Rattle.std.proofs.lemmas.Grind.{flat_map-append, common_steps}
+use Rattle.std.proofs.lemmas.Grind.{flat_map-append}
 use Rattle.nfs3_types.specs.declared.moment.Moment.{Moment}
 use Rattle.outside.specs.Told.{Gains}
 use Rattle.outside.specs.Clock.{GaveMoments}
@@ -11,8 +11,8 @@ use Rattle.outside.proofs.ToldLaws.{gains-nil, gains-append}
 use Rattle.outside.proofs.MomentLaws.{gave_moments-nil, gave_moments-append}
 use Rattle.service.specs.declared.answering.Stop.{Stop}
 use Rattle.service.specs.declared.answering.Stop.TheVariants as stops
-use Rattle.rpc_records.specs.Reading.{marked, head_of}
-use Rattle.service.specs.Framing.{built_length, IsBuilt, IsShort, IsUnbuilt, HasUnbuiltHead, HasUnbuiltRecord, Splits}
+use Rattle.rpc_records.specs.Reading.{marked}
+use Rattle.service.specs.Framing.{built_length, IsBuilt, IsShort, IsUnbuilt, HasUnbuiltHead, Splits}
 use Rattle.service.proofs.Heads.{same_front}
 use Rattle.service.specs.Session.{Answered, Serves, GaveIf, GoesOn, MeetsUnbuilt, StopsAs, IsFront, GainsFront, WroteAll, replies}
 

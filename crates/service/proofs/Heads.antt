@@ -1,5 +1,5 @@
 -- Heads of fragments and the records behind them.
-use Rattle.std.proofs.Common.{◌≡◌, ℕ, ◌+◌, ◌-◌, ◌^◌, ◌<◌, ◌≤◌, ◌==◌, Bool, true, false, cond, List, [], ◌∷◌, ◌++◌, length, take, drop, get_or, Option, Some, None, IsSome, IsSomeAnd, refl, sym, ◌∙◌, ap, arith, rules, subst, ⊎_elim, lit<, ◌⊎◌, length-append}
+use Rattle.std.proofs.Common.{◌≡◌, ℕ, ◌+◌, ◌-◌, ◌^◌, ◌<◌, ◌≤◌, List, [], ◌∷◌, ◌++◌, length, take, drop, get_or, Option, Some, None, IsSome, IsSomeAnd, refl, sym, ◌∙◌, ap, arith, subst, ⊎_elim, lit<, length-append}
 use Rattle.std.specs.Int.{w32, to_be_bytes, from_be_bytes}
 use Rattle.std.proofs.lemmas.Nat.{be_bytes_4}
 use Rattle.std.proofs.lemmas.List.{take_rest, take-append-drop, take-append-le, length-drop, length-take, length-take-le, get_or-take, get_or_past, append_assoc}

@@ -1,11 +1,10 @@
 -- A record that begins with no head of a call is none of the calls that are built.
-use Rattle.std.proofs.Common.{◌≡◌, ℕ, Bool, true, false, cond, List, Result, Ok, Err, Some, None, refl, sym, ◌∙◌, ap, rules}
-use Rattle.std.specs.Prelude.{◌==◌, ◌≢◌, if◌then◌else◌}
+use Rattle.std.proofs.Common.{◌≡◌, ℕ, false, List, Result, Ok, Err, None, refl, rules}
+use Rattle.std.specs.Prelude.{◌≢◌, if◌then◌else◌}
 use Rattle.std.proofs.lemmas.Bool.Decides.{nat_tests}
 use Rattle.xdr_grammar.specs.declared.fault.XdrFault.{XdrFault}
 use Rattle.xdr_grammar.specs.declared.fault.XdrFault.TheVariants.{BadEnum}
 use Rattle.xdr_grammar.specs.Grammar.{and_then}
-use Rattle.xdr_grammar.specs.Items.{tested}
 use Rattle.xdr_grammar.specs.Whole.{whole}
 use Rattle.rpc_msg.specs.Message.{MessageHead, message_head, HasNoCall}
 use Rattle.service.specs.Built.{calls, null_call, getattr_root_call}

@@ -1,5 +1,5 @@
 -- Word lists of one word.
-use Rattle.std.proofs.Common.{◌≡◌, ◌≢◌, ℕ, suc, List, [], ◌∷◌, length, map, get_or, refl, sym, ◌∙◌, ap, arith}
+use Rattle.std.proofs.Common.{◌≡◌, ◌≢◌, ℕ, List, [], ◌∷◌, length, map, get_or, refl, sym, ◌∙◌, ap, arith}
 
 pub one_word : {X : Type 0} (f : X → List ℕ) (words : List X) (word : X) (text : List ℕ) → length words ≡ 1 → word ≡ get_or words 0 word → f word ≡ text → map f words ≡ text ∷ []
 one_word f [] word text one is e = absurd (omega (arith, one))

@@ -1,7 +1,7 @@
 -- A text has one reading, which is that of record marking.
-use Rattle.std.proofs.Common.{◌≡◌, ℕ, ◌+◌, ◌-◌, ◌%◌, ◌^◌, ◌<◌, ◌≤◌, Bool, true, false, List, [], ◌∷◌, ◌++◌, length, take, drop, Option, Some, None, IsSome, IsSomeAnd, refl, sym, ◌∙◌, ap, subst, arith, rules, append_assoc, inl, inr, ◌⊎◌, ⊎_elim, All, suc}
+use Rattle.std.proofs.Common.{◌≡◌, ℕ, ◌+◌, ◌%◌, ◌^◌, ◌<◌, ◌≤◌, List, [], ◌∷◌, ◌++◌, length, drop, Option, Some, None, IsSome, IsSomeAnd, refl, sym, ◌∙◌, ap, arith, append_assoc, inl, inr, ⊎_elim}
 use Rattle.std.specs.List.{flat_map, AllByRecursion}
-use Rattle.std.proofs.lemmas.List.{length-append, length-drop, append-nil}
+use Rattle.std.proofs.lemmas.List.{length-drop, append-nil}
 use Rattle.std.proofs.Math.Nat.{add-mod_left, mod-eq_of_lt}
 use Rattle.byteorder.specs.Numbers.{big_number-reads_back}
 use Rattle.std.proofs.lemmas.List.Elements.{All-from_recursion}
@@ -15,7 +15,7 @@ use Rattle.rpc_records.specs.Marking.{marking, none_whole, with_records}
 use Rattle.rpc_records.specs.Marking as marks
 use Rattle.rpc_records.proofs.RecordLaws.{record_at-short, record_at-fits, fragment_at-short}
 use Rattle.rpc_records.proofs.MarkingLaws.{first_record-marked, marking-marked, marking-partial}
-use Rattle.service.specs.Framing.{built_length, IsBuilt, IsShort, IsUnbuilt, HasUnbuiltHead, HasUnbuiltRecord, Splits, Stops}
+use Rattle.service.specs.Framing.{built_length, IsBuilt, IsShort, Splits, Stops}
 use Rattle.service.proofs.Heads.{built_head}
 
 -- what is built is short

@@ -1,5 +1,5 @@
 -- How long the replies are.
-use Rattle.std.proofs.Common.{◌≡◌, ℕ, ◌+◌, ◌^◌, length, refl, sym, ◌∙◌, ap, List, ◌++◌, append_assoc, arith}
+use Rattle.std.proofs.Common.{◌≡◌, ℕ, ◌+◌, ◌^◌, length, refl, sym, ◌∙◌, ap, List, ◌++◌, append_assoc}
 use Rattle.nfs3_types.specs.declared.moment.Moment.{Moment}
 use Rattle.xdr_grammar.specs.Items.{word, hyper}
 use Rattle.rpc_records.specs.Reading.{marked}

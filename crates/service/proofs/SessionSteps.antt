@@ -1,5 +1,5 @@
 -- Steps of a session: one take and what is answered of it.
-use Rattle.std.proofs.Common.{◌≡◌, ℕ, ◌+◌, ◌-◌, ◌*◌, ◌^◌, ◌<◌, ◌≤◌, Bool, List, [], ◌∷◌, ◌++◌, length, take, Option, refl, sym, ◌∙◌, ap, arith, inl, inr, ◌⊎◌, ⊎_elim, ◌≢◌, subst, rules}
+use Rattle.std.proofs.Common.{◌≡◌, ℕ, ◌+◌, ◌*◌, ◌^◌, ◌<◌, ◌≤◌, Bool, List, [], ◌∷◌, ◌++◌, length, take, Option, refl, arith, ◌⊎◌, ⊎_elim, ◌≢◌, subst}
 use Rattle.std.proofs.lemmas.List.{append-nil, length-append, length-take-le}
 use Rattle.nfs3_types.specs.declared.moment.Moment.{Moment}
 use Rattle.outside.specs.Count.{Rose}
@@ -10,7 +10,7 @@ use Rattle.service.specs.declared.answering.Stop.TheVariants as stops
 use Rattle.service.specs.declared.session.SessionEnd.{SessionEnd}
 use Rattle.service.specs.declared.session.SessionEnd.TheVariants as ends
 use Rattle.service.specs.Framing.{IsShort}
-use Rattle.service.specs.Session.{Answered, GoesOn, StopsAs, EndsAs, EndsBy, IsCut}
+use Rattle.service.specs.Session.{Answered, GoesOn, StopsAs}
 use Rattle.service.specs.SessionRuns.{SessionRuns}
 use Rattle.service.proofs.AnswerSteps.{answered_none, answered-append, carries_on, carries_stop, nothing_short}
 

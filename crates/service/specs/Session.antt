@@ -1,9 +1,9 @@
 -- What a session does: which records it answers, and what it reads, takes of the clock and writes for them.
-use Rattle.std.specs.Prelude.{◌≡◌, ℕ, ◌+◌, ◌*◌, ◌^◌, ◌<◌, ◌≤◌, Bool, List, [], ◌++◌, length, count_by, if◌then◌else◌, Option, unwrap_or, Result, IsErrOf, ◌⊎◌}
+use Rattle.std.specs.Prelude.{◌≡◌, ℕ, ◌^◌, ◌<◌, ◌≤◌, Bool, List, [], ◌++◌, length, count_by, if◌then◌else◌, Option, unwrap_or, Result, IsErrOf, ◌⊎◌}
 use Rattle.std.specs.List.{flat_map}
 use Rattle.nfs3_types.specs.declared.moment.Moment.{Moment}
 use Rattle.outside.specs.Count.{Rose}
-use Rattle.outside.specs.Told.{Gains, GaveBytes, IsUsedUp}
+use Rattle.outside.specs.Told.{Gains}
 use Rattle.outside.specs.Clock.{GaveMoments}
 use Rattle.service.specs.declared.session.SessionEnd.{SessionEnd}
 use Rattle.service.specs.declared.session.SessionEnd.TheVariants.{Done, ReadFault, WriteFault, CutRecord, ManyReads, NotBuilt}

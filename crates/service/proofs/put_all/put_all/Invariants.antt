@@ -1,4 +1,4 @@
-use Rattle.std.proofs.Common.{◌≡◌, ◌≤◌, ◌++◌, length}
+use Rattle.std.proofs.Common.{length}
 use Rattle.service.specs.Session.{PutSoFar}
 use Rattle.service.proofs.put_all.put_all.Given as goal
 

@@ -1,4 +1,3 @@
-use Rattle.std.proofs.Common.{sym, ap}
 use Rattle.service.proofs.ReplySizes.{length-success, length-getattr, put_marked}
 use Rattle.service.specs.Replies.{reply_to}
 use Rattle.service.proofs.replies.put_record.Goals as goal

@@ -1,4 +1,4 @@
-use Rattle.std.proofs.Common.{length, true, false, sym, ◌∙◌, rules}
+use Rattle.std.proofs.Common.{sym, ◌∙◌}
 use Rattle.std.specs.String.{string_bytes}
 use Rattle.std.proofs.lemmas.Bool.{false≢true}
 use Rattle.service.proofs.OneWord.{one_word, that_word, other_count}

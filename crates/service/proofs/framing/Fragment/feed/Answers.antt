@@ -1,4 +1,4 @@
-use Rattle.std.proofs.Common.{◌≡◌, ℕ, ◌+◌, ◌≤◌, List, ◌++◌, length, take, IsSome, sym, ◌∙◌, ap, subst, arith}
+use Rattle.std.proofs.Common.{◌≡◌, ℕ, ◌+◌, ◌≤◌, List, ◌++◌, length, take, IsSome, sym, subst, arith}
 use Rattle.rpc_records.specs.Reading.{head_of}
 use Rattle.service.specs.Framing.{HasUnbuiltHead, IsPending, built_length}
 use Rattle.service.proofs.Heads.{unbuilt_head, pending_after, filled}
