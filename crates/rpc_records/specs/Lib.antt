@@ -1,2 +1,4 @@
 pub mod Reading
 pub mod Marking
+pub mod Progress
+pub mod Stage

@@ -9,6 +9,8 @@
 mod fault;
 mod laws;
 mod limits;
+mod records;
+mod stage;
 
 pub use fault::RecordFault;
 pub use laws::{
@@ -17,3 +19,4 @@ pub use laws::{
 };
 pub use limits::{MOST_BYTES, MOST_FRAGMENTS};
 pub use nfs3_types::NoMemory;
+pub use records::Records;
