@@ -1,2 +1,4 @@
 pub mod RecordLaws
 pub mod MarkingLaws
+pub mod ReaderLaws
+pub mod StreamLaws

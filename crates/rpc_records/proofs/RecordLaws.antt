@@ -1,9 +1,11 @@
 -- The record at the front of a text: its cases, a longer text, and a record that was written.
-use Rattle.std.proofs.Common.{◌≡◌, ℕ, zero, suc, ◌+◌, ◌-◌, ◌^◌, ◌%◌, ◌<◌, ◌≤◌, Bool, true, false, List, [], ◌++◌, length, take, drop, refl, sym, ◌∙◌, inl, inr, append_assoc, length-append, length-drop, arith}
+use Rattle.std.proofs.Common.{◌≡◌, ℕ, zero, suc, ◌+◌, ◌-◌, ◌^◌, ◌%◌, ◌<◌, ◌≤◌, Bool, true, false, List, [], ◌++◌, length, take, drop, refl, sym, ap, ◌∙◌, inl, inr, append_assoc, length-append, length-drop, arith}
 use Rattle.std.specs.Prelude.{nat_lt}
 use Rattle.std.proofs.Math.Nat.{add-mod_left, mod-eq_of_lt}
 use Rattle.std.proofs.lemmas.Bool.{lt-ltb, le-ltb, le-leb, cases_lt}
-use Rattle.std.proofs.lemmas.List.{take-append-le, drop-append-le, take_at, drop_at}
+use Rattle.std.proofs.lemmas.List.{take-append-le, drop-append-le, take_at, drop_at, append-nil}
+use Rattle.std.proofs.Math.Seq.{take-append-add, drop-append-add}
+use Rattle.byteorder.specs.Endian.{big_number, big_bytes}
 use Rattle.byteorder.specs.Numbers.{big_from-append, big_number-reads_back, length-bytes_high_first}
 use Rattle.xdr_grammar.specs.Items.{word}
 use Rattle.rpc_records.specs.declared.limits.TheConstants.{MOST_BYTES}
@@ -143,15 +145,61 @@ record_at-leaves (suc n) content text = elim (cases_lt (length text) 4) [
   ]
 ]
 
+-- ---- a head
+
+-- reading goes on behind a head
+pub record_at-head : (n x : ℕ) (content mark more : List ℕ) → length mark ≡ 4 → head_of mark ≡ x → length content + fragment_length x ≤ MOST_BYTES
+    → record_at (suc n) content (mark ++ more) ≡ fragment_at (record_at n) (is_last x) (fragment_length x) content more
+record_at-head n x content mark more long is fits =
+    let enough : 4 ≤ length (mark ++ more) = omega (arith, length-append mark more, long) in
+    let head : head_of (mark ++ more) ≡ x = head_of-append mark more (omega arith) ∙ is in
+    let fits_head : length content + fragment_length (head_of (mark ++ more)) ≤ MOST_BYTES = rw head fits in
+    rw (record_at-fits n content (mark ++ more) enough fits_head, head, drop_at mark more 4 long) refl
+
+pub record_at-head_long : (n x : ℕ) (content mark more : List ℕ) → length mark ≡ 4 → head_of mark ≡ x → MOST_BYTES < length content + fragment_length x
+    → record_at (suc n) content (mark ++ more) ≡ Refused TooLong
+record_at-head_long n x content mark more long is passes =
+    let enough : 4 ≤ length (mark ++ more) = omega (arith, length-append mark more, long) in
+    let head : head_of (mark ++ more) ≡ x = head_of-append mark more (omega arith) ∙ is in
+    record_at-long n content (mark ++ more) enough (rw head passes)
+
+-- ---- a piece of a fragment
+
+-- bytes of a fragment are content
+pub fragment_at-part : (go_on : List ℕ → List ℕ → Reading) (last : Bool) (left : ℕ) (content part more : List ℕ)
+    → fragment_at go_on last (length part + left) content (part ++ more) ≡ fragment_at go_on last left (content ++ part) more
+fragment_at-part go_on last left content part more = elim (cases_lt (length more) left) [
+  | inl short ↦
+      let short_all : length (part ++ more) < length part + left = omega (arith, length-append part more) in
+      fragment_at-short go_on last (length part + left) content (part ++ more) short_all ∙ sym (fragment_at-short go_on last left (content ++ part) more short)
+  | inr enough ↦
+      let enough_all : length part + left ≤ length (part ++ more) = omega (arith, length-append part more) in
+      let front : content ++ take (length part + left) (part ++ more) ≡ (content ++ part) ++ take left more = ap (λ (t : List ℕ). content ++ t) (take-append-add part more left) ∙ sym (append_assoc content part (take left more)) in
+      let back = drop-append-add part more left in
+      elim last as (λ b. fragment_at go_on b (length part + left) content (part ++ more) ≡ fragment_at go_on b left (content ++ part) more) [
+        | true ↦ rw (fragment_at-last go_on (length part + left) content (part ++ more) enough_all, fragment_at-last go_on left (content ++ part) more enough, front, back) refl
+        | false ↦ rw (fragment_at-more go_on (length part + left) content (part ++ more) enough_all, fragment_at-more go_on left (content ++ part) more enough, front, back) refl
+      ]
+]
+
+-- a fragment of which nothing is left
+pub fragment_at-ended_last : (go_on : List ℕ → List ℕ → Reading) (left : ℕ) (content text : List ℕ) → left ≤ 0 → fragment_at go_on true left content text ≡ Whole content text
+fragment_at-ended_last go_on zero content text h = fragment_at-last go_on 0 content text (omega arith) ∙ ap (λ (t : List ℕ). Whole t text) (append-nil content)
+fragment_at-ended_last go_on (suc left) content text h = absurd (omega arith)
+
+pub fragment_at-ended_more : (go_on : List ℕ → List ℕ → Reading) (left : ℕ) (content text : List ℕ) → left ≤ 0 → fragment_at go_on false left content text ≡ go_on content text
+fragment_at-ended_more go_on zero content text h = fragment_at-more go_on 0 content text (omega arith) ∙ ap (λ (t : List ℕ). go_on t text) (append-nil content)
+fragment_at-ended_more go_on (suc left) content text h = absurd (omega arith)
+
 -- ---- a record that was written
 
 length-mark : (x : ℕ) → length (word.spelling x) ≡ 4
 unfolding word
 length-mark x = length-bytes_high_first 4 x
 
-head_of-mark : (x : ℕ) (more : List ℕ) → x < 256 ^ 4 → head_of (word.spelling x ++ more) ≡ x
+head_of-mark : (x : ℕ) → x < 256 ^ 4 → head_of (word.spelling x) ≡ x
 unfolding word head_of
-head_of-mark x more h = big_number-reads_back 4 x more h
+head_of-mark x h = ap (big_number 4) (sym (append-nil (big_bytes 4 x))) ∙ big_number-reads_back 4 x [] h
 
 -- the length under the top bit
 length_under : (top n : ℕ) → n < top → (top + n) % top ≡ n
@@ -160,13 +208,7 @@ length_under top n h = add-mod_left top n ∙ mod-eq_of_lt h
 -- reading goes on behind a head that was written
 pub record_at-mark : (n x : ℕ) (content more : List ℕ) → x < 2 ^ 32 → length content + fragment_length x ≤ MOST_BYTES
     → record_at (suc n) content (word.spelling x ++ more) ≡ fragment_at (record_at n) (is_last x) (fragment_length x) content more
-record_at-mark n x content more small fits =
-    let mark = word.spelling x in
-    let text = mark ++ more in
-    let enough : 4 ≤ length text = omega (arith, length-append mark more, length-mark x) in
-    let head : head_of text ≡ x = head_of-mark x more (omega arith) in
-    let fits_head : length content + fragment_length (head_of text) ≤ MOST_BYTES = rw head fits in
-    rw (record_at-fits n content text enough fits_head, head, drop_at mark more 4 (length-mark x)) refl
+record_at-mark n x content more small fits = record_at-head n x content (word.spelling x) more (length-mark x) (head_of-mark x (omega arith)) fits
 
 pub record_at-marked : (n : ℕ) (content more : List ℕ) → length content ≤ MOST_BYTES → record_at (suc n) [] (marked content ++ more) ≡ Whole content more
 unfolding marked

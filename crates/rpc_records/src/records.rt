@@ -27,7 +27,7 @@ pub struct Records {
 }
 
 impl Model for Records {
-    ghost use Rattle.std.specs.Prelude.{◌≤◌, vec_capacity, length};
+    ghost use Rattle.std.specs.Prelude.{◌≡◌, ◌≤◌, vec_capacity, length};
     ghost use Rattle.rpc_records.specs.declared.limits.TheConstants.{MOST_BYTES, MOST_FRAGMENTS};
     ghost use Rattle.rpc_records.specs.Progress.{Progress};
     ghost use Rattle.rpc_records.specs.Stage.{progress_at, IsStage};
@@ -36,7 +36,7 @@ impl Model for Records {
 
     ghost view = { λ records. progress_at records.stage records.fragments records.content.items records.head };
 
-    ghost invariant = { λ records. (MOST_BYTES ≤ vec_capacity records.content) × (records.fragments ≤ MOST_FRAGMENTS) × IsStage records.stage records.fragments (length records.content.items) };
+    ghost invariant = { λ records. (MOST_BYTES ≤ vec_capacity records.content) × (records.fragments ≤ MOST_FRAGMENTS) × IsStage records.stage records.fragments (length records.content.items) × (length records.head ≡ 4) };
 }
 
 /// Puts the front of the piece behind the first bytes of the head, as much as fits, and tells how many
