@@ -1,5 +1,5 @@
 -- What the reader's steps say about the present record.
-use Rattle.std.proofs.Common.{◌≡◌, ℕ, zero, suc, ◌+◌, ◌-◌, ◌*◌, ◌<◌, ◌≤◌, Bool, true, false, List, [], ◌∷◌, ◌++◌, length, take, drop, Result, Ok, Err, Option, Some, None, refl, sym, ap, subst, ◌∙◌, append_assoc, length-append, length-take, length-drop, arith}
+use Rattle.std.proofs.Common.{◌≡◌, ℕ, zero, suc, ◌+◌, ◌-◌, ◌*◌, ◌<◌, ◌≤◌, Bool, false, List, [], ◌++◌, length, take, drop, Result, Ok, Err, Option, Some, None, refl, sym, ap, subst, ◌∙◌, append_assoc, length-append, length-take, length-drop, arith}
 use Rattle.std.proofs.Math.Seq.{take-add}
 use Rattle.std.proofs.lemmas.List.{take_all, take-append-drop, append-nil}
 use Rattle.std.proofs.lemmas.Bool.{ne_eqb}
@@ -9,7 +9,7 @@ use Rattle.rpc_records.specs.declared.fault.RecordFault.{RecordFault}
 use Rattle.rpc_records.specs.declared.fault.RecordFault.TheVariants.{TooLong, TooManyFragments}
 use Rattle.rpc_records.specs.declared.stage.Stage.{Stage}
 use Rattle.rpc_records.specs.declared.stage.Stage.TheVariants as at
-use Rattle.rpc_records.specs.Reading.{Reading, head_of, is_last, fragment_length, fragment_at, record_at}
+use Rattle.rpc_records.specs.Reading.{head_of, is_last, fragment_length, fragment_at, record_at}
 use Rattle.rpc_records.specs.Reading.Reading.{Whole, Partial, Refused}
 use Rattle.rpc_records.specs.Progress.{Progress, IsUnfinished, reading_of, taken_of, is_at_edge, refusal_of, Feeds}
 use Rattle.rpc_records.specs.Progress.Progress.{InHead, InFragment, Holding, Refusing}

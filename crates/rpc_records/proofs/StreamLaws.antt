@@ -1,11 +1,11 @@
 -- A reader over a whole stream follows record marking.
-use Rattle.std.proofs.Common.{◌≡◌, ℕ, ◌+◌, ◌≤◌, Bool, true, false, List, [], ◌∷◌, ◌++◌, length, take, Result, Ok, Err, Option, Some, None, refl, sym, ap, subst, ◌∙◌, inl, inr, append_assoc, length-append, arith}
+use Rattle.std.proofs.Common.{◌≡◌, ℕ, false, List, [], ◌∷◌, ◌++◌, length, take, Result, Ok, Err, Some, None, refl, sym, ap, subst, ◌∙◌, inl, inr, append_assoc, length-append, arith}
 use Rattle.std.specs.Prelude.{◌==◌}
 use Rattle.std.proofs.lemmas.Bool.{ne_eqb, cases_lt}
 use Rattle.std.proofs.lemmas.List.{append-nil, take_all}
 use Rattle.rpc_records.specs.declared.limits.TheConstants.{MOST_FRAGMENTS}
 use Rattle.rpc_records.specs.declared.fault.RecordFault.{RecordFault}
-use Rattle.rpc_records.specs.Reading.{Reading, record_at, first_record}
+use Rattle.rpc_records.specs.Reading.{Reading, first_record}
 use Rattle.rpc_records.specs.Reading.Reading.{Whole, Partial, Refused}
 use Rattle.rpc_records.specs.Marking.{Marking, none_whole, with_records, marking}
 use Rattle.rpc_records.specs.Progress.{Progress, IsUnfinished, fresh, reading_of, taken_of, is_at_edge, kept_by, refusal_of, Feeds, after_next}
@@ -80,16 +80,16 @@ pub HasRead-feed : (text : List ℕ) (dropped : List (List ℕ)) (old new : Prog
     → HasRead text dropped old → Feeds old piece result new → HasRead (text ++ taken_part result piece) dropped new
 HasRead-feed text dropped old new piece (Ok n) h f =
     (elim (reading_of old piece) as (λ (r : Reading). reading_of old piece ≡ r → HasRead (text ++ take n piece) dropped new) [
-        | Whole content rest ↦ λ e.
-            fed-ok text dropped old new piece n h f (λ un. absurd (subst IsUnfinished (f.whole content rest e).1 un))
-        | Partial ↦ λ e. fed-ok text dropped old new piece n h f (λ un. (e, ok_is n (length piece) (f.partial e).0))
-        | Refused fault ↦ λ e. let not = (f.refused fault e).0 in absurd cc
+      | Whole content rest ↦ λ e.
+          fed-ok text dropped old new piece n h f (λ un. absurd (subst IsUnfinished (f.whole content rest e).1 un))
+      | Partial ↦ λ e. fed-ok text dropped old new piece n h f (λ un. (e, ok_is n (length piece) (f.partial e).0))
+      | Refused fault ↦ λ e. let not = (f.refused fault e).0 in absurd cc
     ]) refl
 HasRead-feed text dropped old new piece (Err fault) h f =
     (elim (reading_of old piece) as (λ (r : Reading). reading_of old piece ≡ r → HasRead (text ++ piece) dropped new) [
-        | Whole content rest ↦ λ e. let not = (f.whole content rest e).0 in absurd cc
-        | Partial ↦ λ e. let not = (f.partial e).0 in absurd cc
-        | Refused other ↦ λ e. fed-err text dropped old new piece other h e (f.refused other e).1
+      | Whole content rest ↦ λ e. let not = (f.whole content rest e).0 in absurd cc
+      | Partial ↦ λ e. let not = (f.partial e).0 in absurd cc
+      | Refused other ↦ λ e. fed-err text dropped old new piece other h e (f.refused other e).1
     ]) refl
 
 -- what has been read, by the present bytes
@@ -121,6 +121,12 @@ HasRead-next text dropped (Holding content) h = record {
   partial = λ un. record_at-short MOST_FRAGMENTS [] [] (omega arith);
   taken = λ un. refl;
 }
+
+-- the kept record was dropped
+pub HasRead-dropped : (text content items : List ℕ) (dropped : List (List ℕ)) (old : Progress) → Holding content ≡ old → items ≡ [] → HasRead text dropped old → HasRead text (dropped ++ kept_by old) (InHead MOST_FRAGMENTS items [])
+HasRead-dropped text content items dropped old is none h =
+    let h' = subst (HasRead text dropped) (sym is) h in
+    subst (λ (p : Progress). HasRead text (dropped ++ kept_by p) (InHead MOST_FRAGMENTS items [])) is (rw none (HasRead-next text dropped (Holding content) h'))
 
 -- ---- what was read
 

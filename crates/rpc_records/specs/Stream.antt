@@ -1,5 +1,5 @@
 -- A reader over a whole stream, in whatever pieces it comes.
-use Rattle.std.specs.Prelude.{◌≡◌, ℕ, Bool, ◌==◌, List, [], ◌∷◌, ◌++◌, length, take, Result, Ok, Err, Option, None}
+use Rattle.std.specs.Prelude.{◌≡◌, ℕ, ◌==◌, List, [], ◌∷◌, ◌++◌, length, take, Result, Ok, Err, None}
 use Rattle.rpc_records.specs.declared.fault.RecordFault.{RecordFault}
 use Rattle.rpc_records.specs.Reading.{first_record}
 use Rattle.rpc_records.specs.Reading.Reading.{Partial}

@@ -6,6 +6,8 @@ ghost use Rattle.std.specs.List.{flat_map};
 ghost use Rattle.rpc_records.specs.Reading.{first_record, marked};
 ghost use Rattle.rpc_records.specs.Reading.Reading.{Whole, Partial, Refused};
 ghost use Rattle.rpc_records.specs.Marking.{IsShort, marked_from, marking, marking_within, none_whole, with_records};
+ghost use Rattle.rpc_records.specs.Progress.{Progress, fresh};
+ghost use Rattle.rpc_records.specs.Stream.{Call, Runs, HasRead, FollowsMarking, IsSameReading};
 ghost use Rattle.rpc_records.specs.declared.fault.RecordFault.{RecordFault};
 
 /// Record marking goes record by record, and a bound on the records changes nothing where it is at
@@ -49,4 +51,18 @@ pub fn the_rest_is_no_record()
     ensures partial { (text : List ℕ) → (marking text).refusal ≡ None → first_record (marking text).rest ≡ Partial }
     ensures refused { (text : List ℕ) (fault : RecordFault) → (marking text).refusal ≡ Some fault
         → first_record (marking text).rest ≡ Refused fault }
+{}
+
+/// What a reader has read, kept and refused is what record marking of the text says.
+pub fn a_reader_follows_the_marking()
+    ensures { (text : List ℕ) (dropped : List (List ℕ)) (now : Progress) → HasRead text dropped now → FollowsMarking text dropped now }
+{}
+
+/// Calls of a reader in any order, on any pieces: what they dropped, kept and refused is what record
+/// marking of the text says, and any other calls that took the same text agree.
+pub fn any_calls_follow_the_marking()
+    ensures follow { (calls : List Call) (text : List ℕ) (dropped : List (List ℕ)) (now : Progress)
+        → Runs fresh calls text dropped now → FollowsMarking text dropped now }
+    ensures agree { (calls calls' : List Call) (text : List ℕ) (dropped dropped' : List (List ℕ)) (now now' : Progress)
+        → Runs fresh calls text dropped now → Runs fresh calls' text dropped' now' → IsSameReading dropped now dropped' now' }
 {}

@@ -4,6 +4,7 @@ ghost use Rattle.std.specs.Prelude.{◌≡◌, ℕ, ◌+◌, ◌-◌, ◌<◌, �
 ghost use Rattle.rpc_records.specs.Reading.Reading.{Partial};
 ghost use Rattle.rpc_records.specs.Progress.{IsUnfinished, fresh, reading_of, refusal_of, taken_of, is_at_edge, kept_by, after_next, KeepsWhole, TakesAll, Refuses, GoesOn};
 ghost use Rattle.rpc_records.specs.Progress.Progress.{Holding};
+ghost use Rattle.rpc_records.specs.Stream.{HasRead, taken_part};
 
 use crate::fault::RecordFault;
 use crate::limits::{MOST_BYTES, MOST_FRAGMENTS};
@@ -55,7 +56,8 @@ impl Records {
     /// A reader at the beginning of a text. It reserves the room for a whole record, and no later
     /// call takes memory.
     pub fn new(alloc: Global) -> Result<Records, NoMemory>
-        ensures { IfOk result (λ records. records ≡ fresh) }
+        ensures fresh { IfOk result (λ records. records ≡ fresh) }
+        ensures stream { IfOk result (λ records. HasRead [] [] records) }
     {
         Ok(Records {
             content: Vec::with_capacity(alloc, MOST_BYTES)?,
@@ -72,6 +74,10 @@ impl Records {
         ensures partial { TakesAll self.old piece.now result self.new }
         ensures refused { Refuses self.old piece.now result self.new }
         ensures goes_on { GoesOn self.old piece.now result self.new }
+        ensures within { IfOk result (λ n. n ≤ length piece.now) }
+
+        // So what was read of a stream grows by what was taken.
+        ensures stream { (text : List ℕ) (dropped : List (List ℕ)) → HasRead text dropped self.old → HasRead (text ++ taken_part result piece.now) dropped self.new }
     {
         let mut taken = 0;
         while taken < piece.len() && self.is_unfinished() {
@@ -146,6 +152,7 @@ impl Records {
     /// Drops the kept record, if there is one.
     pub fn next(&mut self)
         ensures next { self.new ≡ after_next self.old }
+        ensures stream { (text : List ℕ) (dropped : List (List ℕ)) → HasRead text dropped self.old → HasRead text (dropped ++ kept_by self.old) self.new }
     {
         if let Stage::Whole = self.stage {
             self.content.clear();

@@ -1,4 +1,4 @@
-use Rattle.std.proofs.Common.{◌-◌, ℕ, List, sym, ap, ◌∙◌, arith}
+use Rattle.std.proofs.Common.{◌-◌, sym, ◌∙◌, arith}
 use Rattle.rpc_records.proofs.ReaderLaws.{record_at-no_fragment, record_at-too_long, record_at-fragment}
 use Rattle.rpc_records.proofs.stage.behind_head.Goals as goal
 

@@ -1,5 +1,5 @@
-use Rattle.std.proofs.Common.{ℕ, List, sym, ap, ◌∙◌, arith}
-use Rattle.rpc_records.specs.Reading.{fragment_at, record_at}
+use Rattle.std.proofs.Common.{sym, arith}
+use Rattle.rpc_records.specs.Reading.{record_at}
 use Rattle.rpc_records.proofs.RecordLaws.{fragment_at-ended_last, fragment_at-ended_more}
 use Rattle.rpc_records.proofs.stage.in_fragment.Goals as goal
 

@@ -1,7 +1,8 @@
-use Rattle.std.proofs.Common.{◌≡◌, ◌+◌, ◌-◌, ◌≤◌, ℕ, true, List, length, take, drop, Ok, Err, Option, sym, ap, ◌∙◌, length-take, length-drop, arith}
+use Rattle.std.proofs.Common.{◌≡◌, ◌-◌, true, length, drop, Ok, Err, Option, ap, length-take, length-drop, arith}
 use Rattle.rpc_records.specs.declared.fault.RecordFault.{RecordFault}
 use Rattle.rpc_records.specs.Progress.{IsUnfinished}
 use Rattle.rpc_records.proofs.ReaderLaws.{goes_on-step, feeds-from, answer_of}
+use Rattle.rpc_records.proofs.StreamLaws.{HasRead-feed}
 use Rattle.rpc_records.proofs.records.Records.feed.Goals as goal
 use Rattle.rpc_records.proofs.records.Records.feed.Goals.{then-loop-taken-test+else-is_unfinished, else-loop-taken-test}
 
@@ -23,23 +24,37 @@ returns-in-Some c =
     let before = c.loop-taken.invariant in
     let n = c.loop-taken.taken in
     let all : IsUnfinished c.loop-taken.self → n ≡ length c.args.piece.now = λ unfinished.
-        elim c.loop-taken-test.branch [
-          | then-loop-taken-test+else-is_unfinished w ↦ let is : w.is_unfinished.result ≡ true = w.is_unfinished.ensures.1 unfinished in absurd cc
-          | else-loop-taken-test w ↦ omega arith
-        ] in
+    elim c.loop-taken-test.branch [
+      | then-loop-taken-test+else-is_unfinished w ↦ let is : w.is_unfinished.result ≡ true = w.is_unfinished.ensures.1 unfinished in absurd cc
+      | else-loop-taken-test w ↦ omega arith
+    ] in
     let feeds = feeds-from c.args.self.now c.loop-taken.self c.args.piece.now n (Err c.in-Some.fault) (ap (λ (r : Option RecordFault). answer_of r n) c.in-Some.ensures.refusal)
-        before.within before.reading before.count c.in-Some.ensures.partial all in
-    record { whole = feeds.whole; partial = feeds.partial; refused = feeds.refused; goes_on = feeds.goes_on }
+    before.within before.reading before.count c.in-Some.ensures.partial all in
+    record {
+      whole = feeds.whole;
+      partial = feeds.partial;
+      refused = feeds.refused;
+      goes_on = feeds.goes_on;
+      within = tt;
+      stream = λ text dropped read. HasRead-feed text dropped c.args.self.now c.loop-taken.self c.args.piece.now (Err c.in-Some.fault) read feeds;
+    }
 
 pub returns-in-None : goal.returns-in-None
 returns-in-None c =
     let before = c.loop-taken.invariant in
     let n = c.loop-taken.taken in
     let all : IsUnfinished c.loop-taken.self → n ≡ length c.args.piece.now = λ unfinished.
-        elim c.loop-taken-test.branch [
-          | then-loop-taken-test+else-is_unfinished w ↦ let is : w.is_unfinished.result ≡ true = w.is_unfinished.ensures.1 unfinished in absurd cc
-          | else-loop-taken-test w ↦ omega arith
-        ] in
+    elim c.loop-taken-test.branch [
+      | then-loop-taken-test+else-is_unfinished w ↦ let is : w.is_unfinished.result ≡ true = w.is_unfinished.ensures.1 unfinished in absurd cc
+      | else-loop-taken-test w ↦ omega arith
+    ] in
     let feeds = feeds-from c.args.self.now c.loop-taken.self c.args.piece.now n (Ok n) (ap (λ (r : Option RecordFault). answer_of r n) c.in-None.ensures.refusal)
-        before.within before.reading before.count c.in-None.ensures.partial all in
-    record { whole = feeds.whole; partial = feeds.partial; refused = feeds.refused; goes_on = feeds.goes_on }
+    before.within before.reading before.count c.in-None.ensures.partial all in
+    record {
+      whole = feeds.whole;
+      partial = feeds.partial;
+      refused = feeds.refused;
+      goes_on = feeds.goes_on;
+      within = before.within;
+      stream = λ text dropped read. HasRead-feed text dropped c.args.self.now c.loop-taken.self c.args.piece.now (Ok n) read feeds;
+    }

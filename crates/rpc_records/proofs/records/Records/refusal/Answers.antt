@@ -1,4 +1,4 @@
-use Rattle.std.proofs.Common.{◌≡◌, List, [], length, Option, None, ap, subst, ◌∙◌}
+use Rattle.std.proofs.Common.{◌≡◌, [], ap, subst, ◌∙◌}
 use Rattle.rpc_records.specs.Progress.{Progress, IsUnfinished, reading_of, refusal_of}
 use Rattle.rpc_records.specs.Reading.Reading.{Partial}
 use Rattle.rpc_records.proofs.ReaderLaws.{unfinished-partial, unrefused}
