@@ -21,3 +21,6 @@ pub use laws::{
 pub use limits::{MOST_BYTES, MOST_FRAGMENTS};
 pub use nfs3_types::NoMemory;
 pub use records::Records;
+
+#[cfg(test)]
+mod tests;
