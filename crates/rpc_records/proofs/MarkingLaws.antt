@@ -1,5 +1,5 @@
 -- The laws of record marking.
-use Rattle.std.proofs.Common.{◌≡◌, ℕ, zero, suc, ◌-◌, ◌≤◌, List, [], ◌∷◌, ◌++◌, length, Option, Some, None, refl, sym, ap, subst, ◌∙◌, append_assoc, arith}
+use Rattle.std.proofs.Common.{◌≡◌, ℕ, zero, suc, ◌-◌, ◌<◌, ◌≤◌, List, [], ◌∷◌, ◌++◌, length, Option, Some, None, refl, sym, ap, subst, ◌∙◌, append_assoc, arith}
 use Rattle.std.specs.Prelude.{All}
 use Rattle.std.specs.List.{flat_map}
 use Rattle.xdr_grammar.proofs.Steps.{All-first, All-others}
@@ -7,13 +7,17 @@ use Rattle.rpc_records.specs.declared.limits.TheConstants.{MOST_FRAGMENTS}
 use Rattle.rpc_records.specs.declared.fault.RecordFault.{RecordFault}
 use Rattle.rpc_records.specs.Reading.{Reading, marked, first_record}
 use Rattle.rpc_records.specs.Reading.Reading.{Whole, Partial, Refused}
+use Rattle.rpc_records.specs.Fragments.{in_fragments, joined}
 use Rattle.rpc_records.specs.Marking.{Marking, none_whole, with_records, marked_from, marking_within, marking, IsShort}
-use Rattle.rpc_records.proofs.RecordLaws.{record_at-short, record_at-longer, record_at-leaves, record_at-marked}
+use Rattle.rpc_records.proofs.RecordLaws.{record_at-short, record_at-longer, record_at-leaves, record_at-marked, record_at-fragments}
 
 -- ---- the record at the front
 
 pub first_record-marked : (content more : List ℕ) → IsShort content → first_record (marked content ++ more) ≡ Whole content more
 first_record-marked content more h = record_at-marked 63 content more h
+
+pub first_record-fragments : (parts : List (List ℕ)) (last more : List ℕ) → length parts < MOST_FRAGMENTS → IsShort (joined parts last) → first_record (in_fragments parts last ++ more) ≡ Whole (joined parts last) more
+first_record-fragments parts last more few short = record_at-fragments parts 63 [] last more (omega arith) (omega arith)
 
 pub first_record-longer_whole : (text more content rest : List ℕ) → first_record text ≡ Whole content rest → first_record (text ++ more) ≡ Whole content (rest ++ more)
 first_record-longer_whole text more content rest e = rw e at (record_at-longer MOST_FRAGMENTS [] text more)

@@ -143,6 +143,21 @@ feeds-from old now piece n result is within reads taken partial all =
     let whole : reading_of old piece ≡ reading_of now (drop n piece) = sym (reads (drop n piece) ∙ ap (reading_of old) (take-append-drop n piece)) in
     rw is (feeds-by old now piece n within reads taken partial all whole)
 
+-- a kept record takes nothing
+pub feeds-kept : (old now : Progress) (piece : List ℕ) (result : Result ℕ RecordFault) → Feeds old piece result now
+    → (content : List ℕ) → old ≡ Holding content → (result ≡ Ok 0) × (now ≡ old)
+feeds-kept old now piece result f content is =
+    let whole = f.whole content piece (ap (λ (p : Progress). reading_of p piece) is) in
+    let none : length piece - length piece ≡ 0 = omega arith in
+    (whole.0 ∙ ap (answer_of None) none, whole.1 ∙ sym is)
+
+-- a refusal stays
+pub feeds-for_good : (old now : Progress) (piece : List ℕ) (result : Result ℕ RecordFault) → Feeds old piece result now
+    → (fault : RecordFault) → old ≡ Refusing fault → (result ≡ Err fault) × (now ≡ old)
+feeds-for_good old now piece result f fault is =
+    let refused = f.refused fault (ap (λ (p : Progress). reading_of p piece) is) in
+    (refused.0, refused.1 ∙ sym is)
+
 -- ---- at the edge
 
 -- a part of a head is no edge

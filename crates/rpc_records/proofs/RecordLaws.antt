@@ -1,8 +1,9 @@
 -- The record at the front of a text: its cases, a longer text, and a record that was written.
-use Rattle.std.proofs.Common.{◌≡◌, ℕ, zero, suc, ◌+◌, ◌-◌, ◌^◌, ◌%◌, ◌<◌, ◌≤◌, Bool, true, false, List, [], ◌++◌, length, take, drop, refl, sym, ap, ◌∙◌, inl, inr, append_assoc, length-append, length-drop, arith}
+use Rattle.std.proofs.Common.{◌≡◌, ℕ, zero, suc, ◌+◌, ◌-◌, ◌^◌, ◌%◌, ◌<◌, ◌≤◌, Bool, true, false, List, [], ◌∷◌, ◌++◌, length, take, drop, refl, sym, ap, ◌∙◌, inl, inr, append_assoc, length-append, length-drop, arith}
 use Rattle.std.specs.Prelude.{nat_lt}
+use Rattle.std.specs.List.{flat_map}
 use Rattle.std.proofs.Math.Nat.{add-mod_left, mod-eq_of_lt}
-use Rattle.std.proofs.lemmas.Bool.{lt-ltb, le-ltb, le-leb, cases_lt}
+use Rattle.std.proofs.lemmas.Bool.{lt-ltb, le-ltb, le-leb, lt-leb, cases_lt}
 use Rattle.std.proofs.lemmas.List.{take-append-le, drop-append-le, take_at, drop_at, append-nil}
 use Rattle.std.proofs.Math.Seq.{take-append-add, drop-append-add}
 use Rattle.byteorder.specs.Endian.{big_number, big_bytes}
@@ -12,6 +13,7 @@ use Rattle.rpc_records.specs.declared.limits.TheConstants.{MOST_BYTES}
 use Rattle.rpc_records.specs.declared.fault.RecordFault.TheVariants.{TooLong, TooManyFragments}
 use Rattle.rpc_records.specs.Reading.{Reading, marked, head_of, is_last, fragment_length, fragment_at, record_at}
 use Rattle.rpc_records.specs.Reading.Reading.{Whole, Partial, Refused}
+use Rattle.rpc_records.specs.Fragments.{unmarked, in_fragments, joined}
 
 -- ---- the cases
 
@@ -210,12 +212,44 @@ pub record_at-mark : (n x : ℕ) (content more : List ℕ) → x < 2 ^ 32 → le
     → record_at (suc n) content (word.spelling x ++ more) ≡ fragment_at (record_at n) (is_last x) (fragment_length x) content more
 record_at-mark n x content more small fits = record_at-head n x content (word.spelling x) more (length-mark x) (head_of-mark x (omega arith)) fits
 
-pub record_at-marked : (n : ℕ) (content more : List ℕ) → length content ≤ MOST_BYTES → record_at (suc n) [] (marked content ++ more) ≡ Whole content more
+-- the last fragment, behind other content
+pub record_at-last : (n : ℕ) (content part more : List ℕ) → length content + length part ≤ MOST_BYTES → record_at (suc n) content (marked part ++ more) ≡ Whole (content ++ part) more
 unfolding marked
-record_at-marked n content more h =
-    let size = length content in
+record_at-last n content part more h =
+    let size = length part in
     let last : is_last (2 ^ 31 + size) ≡ true = le-leb _ _ (omega arith) in
     let long : fragment_length (2 ^ 31 + size) ≡ size = length_under (2 ^ 31) size (omega arith) in
-    let step = record_at-mark n (2 ^ 31 + size) [] (content ++ more) (omega arith) (rw long (omega arith)) in
-    let enough : size ≤ length (content ++ more) = omega (arith, length-append content more) in
-    rw (append_assoc (word.spelling (2 ^ 31 + size)) content more, step, last, long, fragment_at-last (record_at n) size [] (content ++ more) enough, take_at content more size refl, drop_at content more size refl) refl
+    let step = record_at-mark n (2 ^ 31 + size) content (part ++ more) (omega arith) (rw long h) in
+    let enough : size ≤ length (part ++ more) = omega (arith, length-append part more) in
+    rw (append_assoc (word.spelling (2 ^ 31 + size)) part more, step, last, long, fragment_at-last (record_at n) size content (part ++ more) enough, take_at part more size refl, drop_at part more size refl) refl
+
+-- a fragment that another one follows
+pub record_at-unmarked : (n : ℕ) (content part more : List ℕ) → length content + length part ≤ MOST_BYTES → record_at (suc n) content (unmarked part ++ more) ≡ record_at n (content ++ part) more
+unfolding unmarked
+record_at-unmarked n content part more h =
+    let size = length part in
+    let last : is_last size ≡ false = lt-leb _ _ (omega arith) in
+    let long : fragment_length size ≡ size = mod-eq_of_lt (omega arith) in
+    let step = record_at-mark n size content (part ++ more) (omega arith) (rw long h) in
+    let enough : size ≤ length (part ++ more) = omega (arith, length-append part more) in
+    rw (append_assoc (word.spelling size) part more, step, last, long, fragment_at-more (record_at n) size content (part ++ more) enough, take_at part more size refl, drop_at part more size refl) refl
+
+pub record_at-marked : (n : ℕ) (content more : List ℕ) → length content ≤ MOST_BYTES → record_at (suc n) [] (marked content ++ more) ≡ Whole content more
+record_at-marked n content more h = record_at-last n [] content more (omega arith)
+
+-- fragments one behind another
+pub record_at-fragments : (parts : List (List ℕ)) (n : ℕ) (content last more : List ℕ) → length parts ≤ n → length content + length (joined parts last) ≤ MOST_BYTES
+    → record_at (suc n) content (in_fragments parts last ++ more) ≡ Whole (content ++ joined parts last) more
+record_at-fragments [] n content last more few fits = record_at-last n content last more fits
+record_at-fragments (part ∷ parts) zero content last more few fits = absurd (omega arith)
+record_at-fragments (part ∷ parts) (suc n) content last more few fits =
+    let others = flat_map (λ (p : List ℕ). p) parts in
+    let size : length (joined (part ∷ parts) last) ≡ length part + length (joined parts last) =
+    ap length (append_assoc part others last) ∙ length-append part (joined parts last) in
+    let first = record_at-unmarked (suc n) content part (in_fragments parts last ++ more) (omega arith) in
+    let behind = record_at-fragments parts n (content ++ part) last more (omega arith) (omega (arith, length-append content part)) in
+    let text : in_fragments (part ∷ parts) last ++ more ≡ unmarked part ++ (in_fragments parts last ++ more) =
+    ap (λ (t : List ℕ). t ++ more) (append_assoc (unmarked part) (flat_map unmarked parts) (marked last)) ∙ append_assoc (unmarked part) (in_fragments parts last) more in
+    let whole : (content ++ part) ++ joined parts last ≡ content ++ joined (part ∷ parts) last =
+    append_assoc content part (joined parts last) ∙ ap (λ (t : List ℕ). content ++ t) (sym (append_assoc part others last)) in
+    ap (record_at (suc (suc n)) content) text ∙ (first ∙ (behind ∙ ap (λ (t : List ℕ). Whole t more) whole))

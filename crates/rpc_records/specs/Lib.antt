@@ -1,4 +1,5 @@
 pub mod Reading
+pub mod Fragments
 pub mod Marking
 pub mod Progress
 pub mod Stage

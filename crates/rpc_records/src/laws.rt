@@ -1,14 +1,17 @@
 //! The laws of record marking. Their functions do nothing: what is proved is that the clause holds.
 //! Proofs of other crates cite the same laws as lemmas of `proofs/`.
 
-ghost use Rattle.std.specs.Prelude.{◌≡◌, ℕ, ◌≤◌, ◌++◌, All, List, length, Option, Some, None};
+ghost use Rattle.std.specs.Prelude.{◌≡◌, ℕ, ◌<◌, ◌≤◌, ◌++◌, All, List, length, Option, Some, None};
 ghost use Rattle.std.specs.List.{flat_map};
 ghost use Rattle.rpc_records.specs.Reading.{first_record, marked};
 ghost use Rattle.rpc_records.specs.Reading.Reading.{Whole, Partial, Refused};
+ghost use Rattle.rpc_records.specs.Fragments.{in_fragments, joined};
 ghost use Rattle.rpc_records.specs.Marking.{IsShort, marked_from, marking, marking_within, none_whole, with_records};
 ghost use Rattle.rpc_records.specs.Progress.{Progress, fresh};
 ghost use Rattle.rpc_records.specs.Stream.{Call, Runs, HasRead, FollowsMarking, IsSameReading};
 ghost use Rattle.rpc_records.specs.declared.fault.RecordFault.{RecordFault};
+
+use crate::limits::MOST_FRAGMENTS;
 
 /// Record marking goes record by record, and a bound on the records changes nothing where it is at
 /// least the number of bytes.
@@ -20,6 +23,12 @@ pub fn marking_goes_record_by_record()
 /// What is written as one record is read as one, whatever follows it.
 pub fn a_marked_record_is_read()
     ensures { (content more : List ℕ) → IsShort content → first_record (marked content ++ more) ≡ Whole content more }
+{}
+
+/// What is written in fragments is read as one record, whatever follows it.
+pub fn a_record_in_fragments_is_read()
+    ensures { (parts : List (List ℕ)) (last more : List ℕ) → length parts < MOST_FRAGMENTS → IsShort (joined parts last)
+        → first_record (in_fragments parts last ++ more) ≡ Whole (joined parts last) more }
 {}
 
 /// Records that are written one after another are those of the text, and then come those of what

@@ -1,9 +1,10 @@
 //! The reader of records.
 
-ghost use Rattle.std.specs.Prelude.{◌≡◌, ℕ, ◌+◌, ◌-◌, ◌<◌, ◌≤◌, ◌↔◌, [], ◌++◌, List, length, take, vec_capacity, min, IfOk, IfSome, IsNone, IsTrue};
+ghost use Rattle.std.specs.Prelude.{◌≡◌, ℕ, ◌+◌, ◌-◌, ◌<◌, ◌≤◌, ◌↔◌, [], ◌++◌, List, length, take, vec_capacity, min, Ok, Err, IfOk, IfSome, IsNone, IsTrue};
 ghost use Rattle.rpc_records.specs.Reading.Reading.{Partial};
 ghost use Rattle.rpc_records.specs.Progress.{IsUnfinished, fresh, reading_of, refusal_of, taken_of, is_at_edge, kept_by, after_next, KeepsWhole, TakesAll, Refuses, GoesOn};
-ghost use Rattle.rpc_records.specs.Progress.Progress.{Holding};
+ghost use Rattle.rpc_records.specs.Progress.Progress.{Holding, Refusing};
+ghost use Rattle.rpc_records.specs.declared.fault.RecordFault.{RecordFault};
 ghost use Rattle.rpc_records.specs.Stream.{HasRead, taken_part};
 
 use crate::fault::RecordFault;
@@ -75,6 +76,10 @@ impl Records {
         ensures refused { Refuses self.old piece.now result self.new }
         ensures goes_on { GoesOn self.old piece.now result self.new }
         ensures within { IfOk result (λ n. n ≤ length piece.now) }
+
+        // While a whole record is kept nothing is taken, and a refusal stays.
+        ensures kept { (content : List ℕ) → self.old ≡ Holding content → (result ≡ Ok 0) × (self.new ≡ self.old) }
+        ensures for_good { (fault : RecordFault) → self.old ≡ Refusing fault → (result ≡ Err fault) × (self.new ≡ self.old) }
 
         // So what was read of a stream grows by what was taken.
         ensures stream { (text : List ℕ) (dropped : List (List ℕ)) → HasRead text dropped self.old → HasRead (text ++ taken_part result piece.now) dropped self.new }

@@ -1,7 +1,7 @@
 use Rattle.std.proofs.Common.{◌≡◌, ◌-◌, true, length, drop, Ok, Err, Option, ap, length-take, length-drop, arith}
 use Rattle.rpc_records.specs.declared.fault.RecordFault.{RecordFault}
 use Rattle.rpc_records.specs.Progress.{IsUnfinished}
-use Rattle.rpc_records.proofs.ReaderLaws.{goes_on-step, feeds-from, answer_of}
+use Rattle.rpc_records.proofs.ReaderLaws.{goes_on-step, feeds-from, feeds-kept, feeds-for_good, answer_of}
 use Rattle.rpc_records.proofs.StreamLaws.{HasRead-feed}
 use Rattle.rpc_records.proofs.records.Records.feed.Goals as goal
 use Rattle.rpc_records.proofs.records.Records.feed.Goals.{then-loop-taken-test+else-is_unfinished, else-loop-taken-test}
@@ -36,6 +36,8 @@ returns-in-Some c =
       refused = feeds.refused;
       goes_on = feeds.goes_on;
       within = tt;
+      kept = feeds-kept c.args.self.now c.loop-taken.self c.args.piece.now (Err c.in-Some.fault) feeds;
+      for_good = feeds-for_good c.args.self.now c.loop-taken.self c.args.piece.now (Err c.in-Some.fault) feeds;
       stream = λ text dropped read. HasRead-feed text dropped c.args.self.now c.loop-taken.self c.args.piece.now (Err c.in-Some.fault) read feeds;
     }
 
@@ -56,5 +58,7 @@ returns-in-None c =
       refused = feeds.refused;
       goes_on = feeds.goes_on;
       within = before.within;
+      kept = feeds-kept c.args.self.now c.loop-taken.self c.args.piece.now (Ok n) feeds;
+      for_good = feeds-for_good c.args.self.now c.loop-taken.self c.args.piece.now (Ok n) feeds;
       stream = λ text dropped read. HasRead-feed text dropped c.args.self.now c.loop-taken.self c.args.piece.now (Ok n) read feeds;
     }
