@@ -1,5 +1,5 @@
 -- The record at the front of a text: its cases, a longer text, and a record that was written.
-use Rattle.std.proofs.Common.{◌≡◌, ℕ, zero, suc, ◌+◌, ◌-◌, ◌^◌, ◌%◌, ◌<◌, ◌≤◌, Bool, true, false, List, [], ◌∷◌, ◌++◌, length, take, drop, refl, sym, ap, ◌∙◌, inl, inr, append_assoc, length-append, length-drop, arith}
+use Rattle.std.proofs.Common.{◌≡◌, ℕ, zero, suc, ◌+◌, ◌-◌, ◌^◌, ◌%◌, ◌<◌, ◌≤◌, Bool, true, false, List, [], ◌∷◌, ◌++◌, length, take, drop, refl, sym, ap, ◌∙◌, inl, inr, append_assoc, length-append, length-take, length-drop, arith}
 use Rattle.std.specs.Prelude.{nat_lt}
 use Rattle.std.specs.List.{flat_map}
 use Rattle.std.proofs.Math.Nat.{add-mod_left, mod-eq_of_lt}
@@ -144,6 +144,41 @@ record_at-leaves (suc n) content text = elim (cases_lt (length text) 4) [
     | inr fits ↦ rw (record_at-fits n content text enough fits, ← length-drop 4 text)
         (fragment_at-leaves (record_at n) (is_last (head_of text)) (fragment_length (head_of text)) content (drop 4 text)
         (λ c t. Leaves-more (length t - 4) (length t) (record_at n c t) (omega arith) (record_at-leaves n c t)))
+  ]
+]
+
+-- ---- how long a record is
+
+-- the content of a whole record fits the limit
+abbrev pub HasShort : Reading → Type 0
+HasShort (Whole content rest) = length content ≤ MOST_BYTES
+HasShort Partial = Unit {0}
+HasShort (Refused fault) = Unit {0}
+
+fragment_at-content : (go_on : List ℕ → List ℕ → Reading) (last : Bool) (size : ℕ) (content text : List ℕ) → length content + size ≤ MOST_BYTES
+    → ((c t : List ℕ) → length c ≤ MOST_BYTES → HasShort (go_on c t)) → HasShort (fragment_at go_on last size content text)
+fragment_at-content go_on last size content text fits short = elim (cases_lt (length text) size) [
+  | inl few ↦ rw (fragment_at-short go_on last size content text few) tt
+  | inr enough ↦
+      let all : length (content ++ take size text) ≤ MOST_BYTES = omega (arith, length-append content (take size text), length-take size text) in
+      elim last as (λ b. HasShort (fragment_at go_on b size content text)) [
+        | true ↦ rw (fragment_at-last go_on size content text enough) all
+        | false ↦ rw (fragment_at-more go_on size content text enough) (short (content ++ take size text) (drop size text) all)
+      ]
+]
+
+pub record_at-content : (n : ℕ) (content text : List ℕ) → length content ≤ MOST_BYTES → HasShort (record_at n content text)
+record_at-content zero content text h = elim (cases_lt (length text) 4) [
+  | inl short ↦ rw (record_at-short 0 content text short) tt
+  | inr enough ↦ rw (record_at-none content text enough) tt
+]
+record_at-content (suc n) content text h = elim (cases_lt (length text) 4) [
+  | inl short ↦ rw (record_at-short (suc n) content text short) tt
+  | inr enough ↦ elim (cases_lt MOST_BYTES (length content + fragment_length (head_of text))) [
+    | inl long ↦ rw (record_at-long n content text enough long) tt
+    | inr fits ↦ rw (record_at-fits n content text enough fits)
+        (fragment_at-content (record_at n) (is_last (head_of text)) (fragment_length (head_of text)) content (drop 4 text) fits
+        (λ c t k. record_at-content n c t k))
   ]
 ]
 

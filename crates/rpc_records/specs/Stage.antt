@@ -14,9 +14,9 @@ progress_at Whole fragments content head = Holding content
 progress_at (Refused fault) fragments content head = Refusing fault
 
 -- A stage where so many fragments may begin, behind so many bytes of content: a head and a fragment
--- are not whole, a fragment fits, and there is no content before the first fragment.
+-- are not whole, a fragment and a record fit, and there is no content before the first fragment.
 abbrev pub IsStage : Stage → ℕ → ℕ → Type 0
 IsStage (Head taken) fragments size = (taken < 4) × (size ≤ MOST_BYTES) × (fragments ≡ MOST_FRAGMENTS → size ≡ 0)
 IsStage (Fragment last left) fragments size = (0 < left) × (size + left ≤ MOST_BYTES) × (fragments < MOST_FRAGMENTS)
-IsStage Whole fragments size = Unit {0}
+IsStage Whole fragments size = size ≤ MOST_BYTES
 IsStage (Refused fault) fragments size = Unit {0}

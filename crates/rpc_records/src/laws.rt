@@ -38,6 +38,11 @@ pub fn marked_records_are_read()
         → marking (flat_map marked records ++ tail) ≡ with_records records (marking tail) }
 {}
 
+/// The records of any text fit the limit.
+pub fn records_are_short()
+    ensures { (text : List ℕ) → All IsShort (marking text).records }
+{}
+
 /// A text without a whole record and without a fault is all rest.
 pub fn a_tail_is_the_rest()
     ensures { (tail : List ℕ) → first_record tail ≡ Partial → marking tail ≡ none_whole tail None }

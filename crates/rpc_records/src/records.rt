@@ -146,6 +146,7 @@ impl Records {
     /// The record that is kept.
     pub fn whole(&self) -> Option<&[u8]>
         ensures whole { IfSome result (λ content. self.now ≡ Holding content.now) }
+        ensures short { IfSome result (λ content. length content.now ≤ MOST_BYTES) }
         ensures none { IsNone result ↔ (kept_by self.now ≡ []) }
     {
         match self.stage {
@@ -166,7 +167,7 @@ impl Records {
         }
     }
 
-    /// Whether no byte of an unfinished record was taken.
+    /// Whether no byte of an unfinished record was taken. After a refusal one was, its head.
     pub fn at_edge(&self) -> bool
         ensures { result ≡ is_at_edge self.now }
     {
