@@ -5,7 +5,8 @@ ghost use Rattle.std.specs.Prelude.{◌≡◌, ℕ, ◌<◌, ◌≤◌, ◌++◌
 ghost use Rattle.std.specs.List.{flat_map};
 ghost use Rattle.rpc_records.specs.Reading.{first_record, marked};
 ghost use Rattle.rpc_records.specs.Reading.Reading.{Whole, Partial, Refused};
-ghost use Rattle.rpc_records.specs.Fragments.{in_fragments, joined};
+ghost use Rattle.rpc_records.specs.Fragments.{in_fragments, joined, IsInFragments};
+ghost use Rattle.xdr_grammar.specs.Laws.{AreBytes};
 ghost use Rattle.rpc_records.specs.Marking.{IsShort, marked_from, marking, marking_within, none_whole, with_records};
 ghost use Rattle.rpc_records.specs.Progress.{Progress, fresh};
 ghost use Rattle.rpc_records.specs.Stream.{Call, Runs, HasRead, FollowsMarking, IsSameReading};
@@ -29,6 +30,11 @@ pub fn a_marked_record_is_read()
 pub fn a_record_in_fragments_is_read()
     ensures { (parts : List (List ℕ)) (last more : List ℕ) → length parts < MOST_FRAGMENTS → IsShort (joined parts last)
         → first_record (in_fragments parts last ++ more) ≡ Whole (joined parts last) more }
+{}
+
+/// What is read as a record was written as one, in fragments.
+pub fn what_is_read_was_written()
+    ensures { (text content rest : List ℕ) → AreBytes text → first_record text ≡ Whole content rest → IsInFragments text content rest }
 {}
 
 /// Records that are written one after another are those of the text, and then come those of what
