@@ -1,2 +1,5 @@
 pub mod RecordLaws
+pub mod FoundLaws
 pub mod MarkingLaws
+pub mod ReaderLaws
+pub mod StreamLaws

@@ -1,19 +1,24 @@
 -- The laws of record marking.
-use Rattle.std.proofs.Common.{◌≡◌, ℕ, zero, suc, ◌-◌, ◌≤◌, List, [], ◌∷◌, ◌++◌, length, Option, Some, None, refl, sym, ap, subst, ◌∙◌, append_assoc, arith}
+use Rattle.std.proofs.Common.{◌≡◌, ℕ, zero, suc, ◌-◌, ◌<◌, ◌≤◌, List, [], ◌∷◌, ◌++◌, length, Option, Some, None, refl, sym, ap, subst, ◌∙◌, append_assoc, arith}
 use Rattle.std.specs.Prelude.{All}
 use Rattle.std.specs.List.{flat_map}
+use Rattle.std.proofs.lemmas.List.Elements.{All-nil, All-cons}
 use Rattle.xdr_grammar.proofs.Steps.{All-first, All-others}
 use Rattle.rpc_records.specs.declared.limits.TheConstants.{MOST_FRAGMENTS}
 use Rattle.rpc_records.specs.declared.fault.RecordFault.{RecordFault}
 use Rattle.rpc_records.specs.Reading.{Reading, marked, first_record}
 use Rattle.rpc_records.specs.Reading.Reading.{Whole, Partial, Refused}
+use Rattle.rpc_records.specs.Fragments.{in_fragments, joined}
 use Rattle.rpc_records.specs.Marking.{Marking, none_whole, with_records, marked_from, marking_within, marking, IsShort}
-use Rattle.rpc_records.proofs.RecordLaws.{record_at-short, record_at-longer, record_at-leaves, record_at-marked}
+use Rattle.rpc_records.proofs.RecordLaws.{record_at-short, record_at-longer, record_at-leaves, record_at-marked, record_at-fragments, record_at-content}
 
 -- ---- the record at the front
 
 pub first_record-marked : (content more : List ℕ) → IsShort content → first_record (marked content ++ more) ≡ Whole content more
 first_record-marked content more h = record_at-marked 63 content more h
+
+pub first_record-fragments : (parts : List (List ℕ)) (last more : List ℕ) → length parts < MOST_FRAGMENTS → IsShort (joined parts last) → first_record (in_fragments parts last ++ more) ≡ Whole (joined parts last) more
+first_record-fragments parts last more few short = record_at-fragments parts 63 [] last more (omega arith) (omega arith)
 
 pub first_record-longer_whole : (text more content rest : List ℕ) → first_record text ≡ Whole content rest → first_record (text ++ more) ≡ Whole content (rest ++ more)
 first_record-longer_whole text more content rest e = rw e at (record_at-longer MOST_FRAGMENTS [] text more)
@@ -69,6 +74,27 @@ marking-marked (content ∷ records) tail h =
     let others = marking-marked records tail (All-others IsShort content records h) in
     let front = first_record-marked content (flat_map marked records ++ tail) (All-first IsShort content records h) in
     ap marking (append_assoc (marked content) (flat_map marked records) tail) ∙ (marking-whole _ content (flat_map marked records ++ tail) front ∙ ap (with_records (content ∷ [])) others)
+
+-- ---- how long the records are
+
+first_record-short : (text content rest : List ℕ) → first_record text ≡ Whole content rest → IsShort content
+first_record-short text content rest e = rw e at (record_at-content MOST_FRAGMENTS [] text (omega arith))
+
+records-short_within : (bound : ℕ) (text : List ℕ) → length text ≤ bound → All IsShort (marking text).records
+records-short_within zero text h =
+    subst (λ (m : Marking). All IsShort m.records) (sym (marking-partial text (record_at-short MOST_FRAGMENTS [] text (omega arith)))) (All-nil IsShort)
+records-short_within (suc bound) text h =
+    (elim (first_record text) as (λ (r : Reading). first_record text ≡ r → All IsShort (marking text).records) [
+      | Whole content rest ↦ λ e.
+          let short = first_record-shorter text content rest e in
+          let others = records-short_within bound rest (omega arith) in
+          subst (λ (m : Marking). All IsShort m.records) (sym (marking-whole text content rest e)) (All-cons IsShort content (marking rest).records (first_record-short text content rest e) others)
+      | Partial ↦ λ e. subst (λ (m : Marking). All IsShort m.records) (sym (marking-partial text e)) (All-nil IsShort)
+      | Refused fault ↦ λ e. subst (λ (m : Marking). All IsShort m.records) (sym (marking-refused text fault e)) (All-nil IsShort)
+    ]) refl
+
+pub records-short : (text : List ℕ) → All IsShort (marking text).records
+records-short text = records-short_within (length text) text (omega arith)
 
 -- ---- a longer text
 

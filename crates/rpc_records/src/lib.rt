@@ -9,11 +9,19 @@
 mod fault;
 mod laws;
 mod limits;
+mod records;
+mod stage;
 
 pub use fault::RecordFault;
 pub use laws::{
-    a_longer_text_keeps_its_records, a_marked_record_is_read, a_refusal_stays, a_tail_is_the_rest,
-    marked_records_are_read, marking_goes_record_by_record, the_rest_is_no_record,
+    a_longer_text_keeps_its_records, a_marked_record_is_read, a_reader_follows_the_marking,
+    a_record_in_fragments_is_read, a_refusal_stays, a_tail_is_the_rest,
+    any_calls_follow_the_marking, marked_records_are_read, marking_goes_record_by_record,
+    records_are_short, the_rest_is_no_record, what_is_read_was_written,
 };
 pub use limits::{MOST_BYTES, MOST_FRAGMENTS};
 pub use nfs3_types::NoMemory;
+pub use records::Records;
+
+#[cfg(test)]
+mod tests;
