@@ -14,7 +14,7 @@ use Rattle.service.specs.declared.answering.Stop.TheVariants as stops
 use Rattle.rpc_records.specs.Reading.{marked}
 use Rattle.service.specs.Framing.{built_length, IsBuilt, IsShort, IsUnbuilt, HasUnbuiltHead, Splits}
 use Rattle.service.proofs.Heads.{same_front}
-use Rattle.service.specs.Session.{Answered, Serves, GaveIf, GoesOn, MeetsUnbuilt, StopsAs, IsFront, GainsFront, WroteAll, replies}
+use Rattle.service.specs.Session.{Answered, Serves, GaveIf, GoesOn, MeetsUnbuilt, StopsAs, IsFront, GainsFront, WroteAll, transcript}
 
 -- nothing is answered
 pub serves_none : {C K : Type 0} (needs : List ℕ → Bool) (given : C → Option (List Moment)) (to_come : C → Option (ℕ → Moment)) (written : K → Option (List ℕ)) (clock clock' : C) (sink : K) → GaveMoments given to_come clock clock' [] → Serves needs given to_come written clock clock' sink sink [] []
@@ -49,7 +49,7 @@ meets_unbuilt reply needs given to_come written clock clock' sink text content w
     answered_unbuilt reply needs given to_come written clock clock' sink text gave (unbuilt_record reply text content whole long none)
 
 -- one record is answered
-one_reply : (reply : List ℕ → Option (List ℕ)) (content out : List ℕ) → reply content ≡ Some out → out ≡ replies reply (content ∷ [])
+one_reply : (reply : List ℕ → Option (List ℕ)) (content out : List ℕ) → reply content ≡ Some out → out ≡ transcript reply (content ∷ [])
 one_reply reply content out h = rw h (sym (append-nil out))
 
 one_count : (needs : List ℕ → Bool) (content : List ℕ) → cond (needs content) 1 0 ≡ count_by needs (content ∷ [])
@@ -89,8 +89,8 @@ stops_writing reply needs given to_come written clock clock' sink sink' text con
 }
 
 -- records in a row
-replies-append : (reply : List ℕ → Option (List ℕ)) (rs ss : List (List ℕ)) → replies reply (rs ++ ss) ≡ replies reply rs ++ replies reply ss
-replies-append reply rs ss = flat_map-append (λ content. unwrap_or (reply content) []) rs ss
+transcript-append : (reply : List ℕ → Option (List ℕ)) (rs ss : List (List ℕ)) → transcript reply (rs ++ ss) ≡ transcript reply rs ++ transcript reply ss
+transcript-append reply rs ss = flat_map-append (λ content. unwrap_or (reply content) []) rs ss
 
 built-append : (P : List ℕ → Type 0) (rs ss : List (List ℕ)) → AllByRecursion P rs → AllByRecursion P ss → AllByRecursion P (rs ++ ss)
 built-append P [] ss h k = k
@@ -115,15 +115,15 @@ abbrev pub Carries : (List ℕ → Option (List ℕ)) → (List (List ℕ) → L
 Carries reply Ends = (rs ss : List (List ℕ)) (tail bs cs : List ℕ) → WroteAll reply rs bs → Ends ss tail cs → Ends (rs ++ ss) tail (bs ++ cs)
 
 pub wrote-append : (reply : List ℕ → Option (List ℕ)) (rs ss : List (List ℕ)) (bs cs : List ℕ) → WroteAll reply rs bs → WroteAll reply ss cs → WroteAll reply (rs ++ ss) (bs ++ cs)
-wrote-append reply rs ss bs cs first then = ap (λ xs. xs ++ cs) first ∙ ap (λ xs. replies reply rs ++ xs) then ∙ sym (replies-append reply rs ss)
+wrote-append reply rs ss bs cs first then = ap (λ xs. xs ++ cs) first ∙ ap (λ xs. transcript reply rs ++ xs) then ∙ sym (transcript-append reply rs ss)
 
 pub carries_on : (reply : List ℕ → Option (List ℕ)) (pending : List ℕ) → Carries reply (GoesOn reply pending)
 carries_on reply pending rs ss tail bs cs first then = record { rest = then.rest; short = then.short; wrote = wrote-append reply rs ss bs cs first then.wrote }
 
-pub carries_front : (reply : List ℕ → Option (List ℕ)) → Carries reply (λ records tail bytes. IsFront bytes (replies reply records))
+pub carries_front : (reply : List ℕ → Option (List ℕ)) → Carries reply (λ records tail bytes. IsFront bytes (transcript reply records))
 carries_front reply rs ss tail bs cs first then = record {
   rest = then.rest;
-  whole = replies-append reply rs ss ∙ ap (λ xs. xs ++ replies reply ss) (sym first) ∙ ap (λ xs. bs ++ xs) then.whole ∙ sym (append_assoc bs cs then.rest);
+  whole = transcript-append reply rs ss ∙ ap (λ xs. xs ++ transcript reply ss) (sym first) ∙ ap (λ xs. bs ++ xs) then.whole ∙ sym (append_assoc bs cs then.rest);
 }
 
 pub carries_unbuilt : (reply : List ℕ → Option (List ℕ)) → Carries reply (MeetsUnbuilt reply)

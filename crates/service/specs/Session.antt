@@ -11,9 +11,9 @@ use Rattle.service.specs.declared.answering.Stop.{Stop}
 use Rattle.service.specs.declared.answering.Stop.TheVariants as stops
 use Rattle.service.specs.Framing.{Splits, IsShort, IsUnbuilt}
 
--- the replies to records, one after another
-abbrev pub replies : (List ℕ → Option (List ℕ)) → List (List ℕ) → List ℕ
-replies reply records = flat_map (λ content. unwrap_or (reply content) []) records
+-- the transcript: the replies to records, one after another
+abbrev pub transcript : (List ℕ → Option (List ℕ)) → List (List ℕ) → List ℕ
+transcript reply records = flat_map (λ content. unwrap_or (reply content) []) records
 
 -- the bytes are the first of those
 pub record IsFront (bytes all : List ℕ) : Type 0 where
@@ -52,7 +52,7 @@ pub record Answered {C K : Type 0} (reply : List ℕ → Option (List ℕ)) (nee
 
 -- all replies to the records were written
 abbrev pub WroteAll : (List ℕ → Option (List ℕ)) → List (List ℕ) → List ℕ → Type 0
-WroteAll reply records bytes = bytes ≡ replies reply records
+WroteAll reply records bytes = bytes ≡ transcript reply records
 
 -- all records were answered, and less than a record follows them, which is this
 pub record GoesOn (reply : List ℕ → Option (List ℕ)) (pending : List ℕ) (records : List (List ℕ)) (tail bytes : List ℕ) : Type 0 where
@@ -68,7 +68,7 @@ pub record MeetsUnbuilt (reply : List ℕ → Option (List ℕ)) (records : List
 -- why the answering stopped
 abbrev pub StopsAs : (List ℕ → Option (List ℕ)) → Stop → List (List ℕ) → List ℕ → List ℕ → Type 0
 StopsAs reply stops.NotBuilt records tail bytes = MeetsUnbuilt reply records tail bytes
-StopsAs reply stops.WriteFault records tail bytes = IsFront bytes (replies reply records)
+StopsAs reply stops.WriteFault records tail bytes = IsFront bytes (transcript reply records)
 
 -- a sink's count of faults did not fall, and rose where writing stopped the answering
 pub record StopHasCause (before now : ℕ) (result : Result (Unit {0}) Stop) : Type 0 where
@@ -88,7 +88,7 @@ EndsAs reply CutRecord records tail bytes = IsCut reply records tail bytes
 EndsAs reply ReadFault records tail bytes = GoesOn reply tail records tail bytes
 EndsAs reply ManyReads records tail bytes = GoesOn reply tail records tail bytes
 EndsAs reply NotBuilt records tail bytes = MeetsUnbuilt reply records tail bytes
-EndsAs reply WriteFault records tail bytes = IsFront bytes (replies reply records)
+EndsAs reply WriteFault records tail bytes = IsFront bytes (transcript reply records)
 
 -- The input was read to its end where the session ended so; it was not read 2 ^ 48 times where it did
 -- not end for that; and each fault has its cause.
