@@ -1,0 +1,49 @@
+-- What this service answers to MOUNT calls: it exports one directory, `/`, to all hosts, and keeps no
+-- list of who has mounted it.
+use Rattle.std.specs.Prelude.{◌≡◌, ℕ, ◌==◌, if◌then◌else◌, List, [], ◌∷◌, ◌++◌, codes, bytes_eq, Ok}
+use Rattle.xdr_grammar.specs.Grammar.{Grammar, ◌at◌, ◌>>=◌, done}
+use Rattle.xdr_grammar.specs.Items.{hyper}
+use Rattle.xdr_grammar.specs.Whole.{whole}
+use Rattle.mount3.specs.Protocol.{arguments, MountResult, Mount, Refusal, mount_result, mount_list, exports}
+
+-- what a handle says: the file system, the snapshot, which is 0 in the live tree, and the file
+pub record Node : Type 0 where
+  pub fsid : ℕ
+  pub snapshot : ℕ
+  pub fileid : ℕ
+
+unfoldable pub handle : Grammar Node
+handle = do
+  fsid ← hyper at (λ n. n.fsid)
+  snapshot ← hyper at (λ n. n.snapshot)
+  fileid ← hyper at (λ n. n.fileid)
+  done (record { fsid = fsid; snapshot = snapshot; fileid = fileid })
+
+-- the exported directory, which is the root of the file system: file 1 of the live tree
+abbrev pub root : List ℕ
+root = codes "/"
+
+unfoldable pub root_handle : ℕ → List ℕ
+root_handle fsid = handle.spelling (record { fsid = fsid; snapshot = 0; fileid = 1 })
+
+-- MNT gives the root's handle, with AUTH_SYS, 1, before AUTH_NONE, 0, and refuses each other path
+-- with MNT3ERR_NOENT, 2.
+abbrev pub mount : ℕ → List ℕ → MountResult
+mount fsid path =
+    if bytes_eq path root
+    then Mount (record { handle = root_handle fsid; flavors = 1 ∷ 0 ∷ [] })
+    else Refusal 2
+
+-- the body of the reply: MNT is 1, DUMP 2 and EXPORT 5; NULL, 0, UMNT, 3, and UMNTALL, 4, answer nothing
+unfoldable pub body : ℕ → ℕ → List ℕ → List ℕ
+body fsid procedure path =
+    if procedure == 1 then mount_result.spelling (mount fsid path)
+    else (if procedure == 2 then mount_list.spelling []
+    else (if procedure == 5 then exports.spelling (record { directory = root; groups = [] } ∷ [])
+    else []))
+
+-- the arguments were whole, and the buffer gained the body
+pub record Answers (fsid procedure : ℕ) (args old new : List ℕ) : Type 0 where
+  pub path : List ℕ
+  pub read : whole (arguments procedure) args ≡ Ok path
+  pub gained : new ≡ old ++ body fsid procedure path

@@ -1,0 +1,187 @@
+//! Answering a call.
+
+ghost use Rattle.std.specs.Prelude.{◌≡◌, ◌≢◌, ◌↔◌, ◌+◌, ◌-◌, ◌^◌, ◌<◌, ◌≤◌, ◌++◌, List, [], ◌∷◌, Err, vec_len, vec_capacity, OnOk, OnErr, IsOk};
+ghost use Rattle.xdr_grammar.specs.declared.fault.XdrFault.{XdrFault};
+ghost use Rattle.xdr_grammar.specs.Items.{word, opaque};
+ghost use Rattle.xdr_grammar.specs.Arrays.{array};
+ghost use Rattle.xdr_grammar.specs.Reading.{GivesWhole};
+ghost use Rattle.xdr_grammar.specs.Whole.{whole};
+ghost use Rattle.mount3.specs.Protocol.{arguments, mount_result, mount_list, exports};
+ghost use Rattle.mount3.specs.Answering.{Answers, body, mount, root, root_handle};
+
+use nfs3_types::NoMemory;
+use thiserror::Error;
+use xdr::{Reader, put_hyper, put_opaque, put_truth, put_word};
+use xdr_grammar::XdrFault;
+
+/// The procedure MNT.
+const MNT: u32 = 1;
+
+/// The procedure DUMP.
+const DUMP: u32 = 2;
+
+/// The procedure UMNT.
+const UMNT: u32 = 3;
+
+/// The procedure EXPORT.
+const EXPORT: u32 = 5;
+
+/// The greatest length of a path in bytes (MNTPATHLEN).
+const MNTPATHLEN: u32 = 1024;
+
+/// The status of a MNT that succeeds (MNT3_OK).
+const MNT3_OK: u32 = 0;
+
+/// The status of a MNT of a path that is not exported (MNT3ERR_NOENT).
+const MNT3ERR_NOENT: u32 = 2;
+
+/// The flavor of credentials that name a user by number (RFC 5531, section 8.1).
+const AUTH_SYS: u32 = 1;
+
+/// The flavor of credentials that say nothing.
+const AUTH_NONE: u32 = 0;
+
+/// The root's file id.
+const ROOT: u64 = 1;
+
+/// The length of a handle in bytes.
+const HANDLE: u32 = 24;
+
+/// How many bytes the longest body has.
+const LONGEST_BODY: usize = 44;
+
+/// What is exported: `/`, the root of one file system, to all hosts.
+#[derive(Clone, Copy, Debug, PartialEq, Eq)]
+pub struct Exports {
+    /// The id of the file system, with which its handles begin.
+    pub fsid: u64,
+}
+
+/// Why a call has no body.
+#[derive(Clone, Copy, Debug, PartialEq, Eq, Error)]
+pub enum MountFault {
+    /// The arguments do not spell what the procedure takes, with the first fault.
+    #[error("the arguments of a MOUNT call do not read: {0}")]
+    Garbage(XdrFault),
+    /// Memory ran out.
+    #[error("no memory")]
+    NoMemory,
+}
+
+/// Reads the arguments: a path, which is empty where the procedure takes none.
+#[tactic(auto, unfolding(crate::specs::Protocol::arguments, crate::specs::Protocol::dirpath))]
+fn read_path(procedure: u32, args: &[u8]) -> Result<&[u8], XdrFault>
+    ensures { GivesWhole (λ path. path.now) (whole (arguments procedure) args.now) result }
+{
+    let mut reader = Reader::new(args);
+    let path = if procedure == MNT || procedure == UMNT {
+        reader.opaque(MNTPATHLEN)?
+    } else {
+        &args[..0]
+    };
+    reader.end()?;
+    Ok(path)
+}
+
+/// Puts the root's handle.
+fn put_handle(out: &mut Vec<u8>, exports: Exports) -> Result<(), NoMemory>
+    ensures ok { OnOk result (out.new.items ≡ out.old.items ++ (opaque 64).spelling (root_handle exports.fsid)) }
+    ensures len { OnOk result (vec_len out.new ≡ vec_len out.old + 28) }
+    ensures room { vec_len out.old + 28 ≤ vec_capacity out.old → IsOk result }
+    ensures capacity { vec_capacity out.old ≤ vec_capacity out.new }
+{
+    put_word(out, HANDLE)?;
+    put_hyper(out, exports.fsid)?;
+    put_hyper(out, 0)?;
+    put_hyper(out, ROOT)
+}
+
+/// Puts the flavors of credentials that are taken.
+fn put_flavors(out: &mut Vec<u8>) -> Result<(), NoMemory>
+    ensures ok { OnOk result (out.new.items ≡ out.old.items ++ (array (2 ^ 32 - 1) word).spelling (1 ∷ 0 ∷ [])) }
+    ensures room { vec_len out.old + 12 ≤ vec_capacity out.old → IsOk result }
+{
+    put_word(out, 2)?;
+    put_word(out, AUTH_SYS)?;
+    put_word(out, AUTH_NONE)
+}
+
+/// Puts MNT's result for a path.
+#[tactic(auto, unfolding(crate::specs::Protocol::mount_result, crate::specs::Protocol::mounted))]
+fn put_mount(out: &mut Vec<u8>, exports: Exports, path: &[u8]) -> Result<(), NoMemory>
+    ensures ok { OnOk result (out.new.items ≡ out.old.items ++ mount_result.spelling (mount exports.fsid path.now)) }
+    ensures room { vec_len out.old + 44 ≤ vec_capacity out.old → IsOk result }
+{
+    if path != b"/".as_slice() {
+        return put_word(out, MNT3ERR_NOENT);
+    }
+    put_word(out, MNT3_OK)?;
+    put_handle(out, exports)?;
+    put_flavors(out)
+}
+
+/// Puts EXPORT's result.
+#[tactic(auto, unfolding(crate::specs::Protocol::exports, crate::specs::Protocol::export, crate::specs::Protocol::dirpath, xdr_grammar::specs::Entries::entries))]
+fn put_exports(out: &mut Vec<u8>) -> Result<(), NoMemory>
+    ensures ok { OnOk result (out.new.items ≡ out.old.items ++ exports.spelling (record { directory = root; groups = [] } ∷ [])) }
+    ensures room { vec_len out.old + 20 ≤ vec_capacity out.old → IsOk result }
+{
+    put_truth(out, true)?;
+    put_opaque(out, b"/".as_slice())?;
+    put_truth(out, false)?;
+    put_truth(out, false)
+}
+
+/// Puts DUMP's result, a list of nothing.
+#[tactic(auto, unfolding(crate::specs::Protocol::mount_list, xdr_grammar::specs::Entries::entries))]
+fn put_mounts(out: &mut Vec<u8>) -> Result<(), NoMemory>
+    ensures ok { OnOk result (out.new.items ≡ out.old.items ++ mount_list.spelling []) }
+    ensures room { vec_len out.old + 4 ≤ vec_capacity out.old → IsOk result }
+{
+    put_truth(out, false)
+}
+
+/// Puts the body of the reply.
+#[tactic(auto, unfolding(crate::specs::Answering::body))]
+fn put_body(
+    out: &mut Vec<u8>,
+    procedure: u32,
+    exports: Exports,
+    path: &[u8],
+) -> Result<(), NoMemory>
+    ensures ok { OnOk result (out.new.items ≡ out.old.items ++ body exports.fsid procedure path.now) }
+    ensures err { OnErr result (out.new.items ≡ out.old.items) }
+    ensures room { vec_len out.old + 44 ≤ vec_capacity out.old → IsOk result }
+{
+    out.reserve(LONGEST_BODY)?;
+    match procedure {
+        MNT => put_mount(out, exports, path),
+        DUMP => put_mounts(out),
+        EXPORT => put_exports(out),
+        _ => Ok(()),
+    }
+}
+
+/// Adds to `out` the body of the reply to a MOUNT call with these arguments. After a refusal it holds
+/// what it held before.
+pub fn answer_mount(
+    procedure: u32,
+    args: &[u8],
+    e: &Exports,
+    out: &mut Vec<u8>,
+) -> Result<(), MountFault>
+    requires { procedure ≤ 5 }
+    ensures ok { OnOk result (Answers e.now.fsid procedure args.now out.old.items out.new.items) }
+    ensures garbage { (fault : XdrFault) → (result ≡ Err (MountFault.Garbage fault)) ↔ (whole (arguments procedure) args.now ≡ Err fault) }
+    ensures err { OnErr result (out.new.items ≡ out.old.items) }
+    ensures room { vec_len out.old + 44 ≤ vec_capacity out.old → result ≢ Err MountFault.NoMemory }
+{
+    let path = match read_path(procedure, args) {
+        Ok(path) => path,
+        Err(fault) => return Err(MountFault::Garbage(fault)),
+    };
+    match put_body(out, procedure, *e, path) {
+        Ok(()) => Ok(()),
+        Err(NoMemory) => Err(MountFault::NoMemory),
+    }
+}

@@ -1,0 +1,15 @@
+//! The MOUNT protocol, version 3 (RFC 1813, appendix I), which gives a client its first handle.
+//!
+//! It promises that [`answer_mount`] adds exactly the body that the protocol has for a call, and that
+//! arguments are refused exactly where they do not spell what the procedure takes, with the first
+//! fault. It stands on `xdr` for items, and on `xdr_grammar` for what is spelled how.
+#![tactic(auto)]
+
+mod answering;
+mod laws;
+
+pub use answering::{Exports, MountFault, answer_mount};
+pub use laws::mount_is_lawful;
+
+#[cfg(test)]
+mod tests;
