@@ -1,0 +1,12 @@
+//! Search in a tree of versioned records that lies in pages.
+//!
+//! It promises the least record at or after, or after, a key and a birth: [`seek`] and [`next`] of
+//! the tree that any pages make which agree with what was read, and [`find_in`] in one page. On
+//! pages that make no tree they answer, at the latest, that these are not those of a tree.
+//! It stands on `btree_page` and `pair_types`.
+#![tactic(auto)]
+
+mod aim;
+mod find;
+
+pub use find::find_in;
