@@ -1,7 +1,8 @@
 //! Search in one page.
 
-ghost use Rattle.std.specs.Prelude.{◌≡◌, ◌<◌, length, slice_get, IfSome};
+ghost use Rattle.std.specs.Prelude.{◌≡◌, ◌<◌, length, slice_get};
 ghost use Rattle.btree_search.specs.declared.aim.Aim.TheVariants.{AtOrAfter};
+ghost use Rattle.btree_page.specs.Content.{Entry};
 ghost use Rattle.btree_search.specs.Find.{BeginsAt, seeks};
 
 use crate::aim::Aim;
@@ -35,7 +36,8 @@ pub(crate) fn first_sought(view: &PageView<'_>, aim: Aim, key: &[u8], birth: u64
 /// Whether the cell at an index is sought.
 fn is_sought_at(view: &PageView<'_>, i: usize, aim: Aim, key: &[u8], birth: u64) -> bool
     requires { i < length view.now.cells }
-    ensures { IfSome (slice_get view.now.cells i) (λ e. result ≡ seeks aim (record { key = key.now; birth = birth }) e) }
+    ensures { (e : Entry) → slice_get view.now.cells i ≡ Some e
+        → result ≡ seeks aim (record { key = key.now; birth = birth }) e }
 {
     match view.cell(i) {
         Some(Cell::Leaf { key: at, birth: born, .. }) | Some(Cell::Inner { key: at, birth: born, .. }) => {
