@@ -1,2 +1,4 @@
 pub mod Halving
 pub mod Order
+pub mod Ranges
+pub mod Parts
