@@ -1,4 +1,7 @@
 pub mod Halving
+pub mod Leaves
 pub mod Order
-pub mod Ranges
 pub mod Parts
+pub mod Ranges
+pub mod Searches
+pub mod Walks

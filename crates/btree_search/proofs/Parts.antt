@@ -182,7 +182,7 @@ passes p level aim pair cells i quads h none = record {
   along = h.others;
 }
 
-not_both : (a b : Bound) → IsBelow a b → IsBelow b a → ⊥
+pub not_both : (a b : Bound) → IsBelow a b → IsBelow b a → ⊥
 not_both a b up down = let around = bound_total.antisymm a b in cc
 
 -- the least of a child is the least of the whole, where nothing before the child is sought

@@ -1,13 +1,16 @@
 -- What the walk below one page answers.
-use Rattle.std.specs.Prelude.{ℕ, ◌≡◌, ◌<◌, ◌≤◌, List, Option, Some, IsSome, slice_get}
+use Rattle.std.specs.Prelude.{ℕ, ◌≡◌, ◌<◌, ◌≤◌, List, length, map, Option, Some, None, Result, Ok, Err, IsSome, slice_get}
 use Rattle.pair_types.specs.declared.slot.Slot.{Slot}
 use Rattle.pair_types.specs.declared.quad.Quad.{Quad}
+use Rattle.pair_types.specs.declared.fault.PairFault.{PairFault}
+use Rattle.pair_types.specs.declared.fault.PairFault.TheVariants.{Odd, HeightFull, Page}
 use Rattle.pair_types.specs.PageMaps.{PageMap, Agrees, over}
-use Rattle.pair_types.specs.PageState.{PageState}
+use Rattle.pair_types.specs.PageState.{PageState, Reads, no_memory}
 use Rattle.btree_page.specs.Content.{Bound, Entry, Leads, Content, Spells}
-use Rattle.btree_page.specs.Tree.{Holds, Subtree}
+use Rattle.btree_page.specs.Tree.{Holds, quad_cell, Subtree}
 use Rattle.btree_search.specs.declared.aim.Aim.{Aim}
-use Rattle.btree_search.specs.Found.{IsFound}
+use Rattle.btree_search.specs.Find.{BeginsAt}
+use Rattle.btree_search.specs.Found.{IsFound, OnlyReads, HasCause}
 
 -- each page lies in one of the stores
 pub record InStores (stores : ℕ) (p : PageMap) : Type 0 where
@@ -43,3 +46,34 @@ pub record LeadsAt (cells : List Entry) (i : ℕ) (slot : Slot) : Type 0 where
   pub cell : Entry
   pub there : slice_get cells i ≡ Some cell
   pub leads : cell.body ≡ Leads slot
+
+-- the first sought cell of a leaf is this record, or no cell is sought
+abbrev pub IsFirst : Aim → Bound → List Entry → Option Quad → Type 0
+IsFirst aim pair cells (Some q) = (n : ℕ) × BeginsAt aim pair cells n × (slice_get cells n ≡ Some (quad_cell q))
+IsFirst aim pair cells None = (n : ℕ) × BeginsAt aim pair cells n × (length cells ≤ n)
+
+-- why the first cell is not answered: it is none of a leaf, or memory ran out
+abbrev pub IsLeafFault : List Entry → PairFault → Type 0
+IsLeafFault cells Odd = (quads : List Quad) → cells ≡ map quad_cell quads → ⊥
+IsLeafFault cells HeightFull = ⊥
+IsLeafFault cells (Page fault) = fault ≡ no_memory
+
+-- no child stands at this index
+abbrev pub HasNoChild : List Entry → ℕ → Type 0
+HasNoChild cells i = (child : Slot) → LeadsAt cells i child → ⊥
+
+-- a page was read in the slot of the child at this index
+pub record IsChildPage (old new : PageState) (cells : List Entry) (i : ℕ) (page : List ℕ) : Type 0 where
+  pub slot : Slot
+  pub leads : LeadsAt cells i slot
+  pub reads : Reads old new slot page
+
+-- the answer of a walk is right, or it has a cause
+abbrev pub IsAnswer : Aim → Bound → PageState → PageState → Content → Result (Option Quad) PairFault → Type 0
+IsAnswer aim pair old new content (Ok found) = IsFoundBelow aim pair new content found
+IsAnswer aim pair old new content (Err fault) = HasCause old new (HasNoPart new content) fault
+
+-- what a walk below a page answers and leaves
+pub record Walks (aim : Aim) (pair : Bound) (old new : PageState) (content : Content) (result : Result (Option Quad) PairFault) : Type 0 where
+  pub only : OnlyReads old new
+  pub answer : IsAnswer aim pair old new content result

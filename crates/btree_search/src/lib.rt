@@ -9,5 +9,8 @@
 mod aim;
 mod find;
 mod load;
+mod search;
+mod walk;
 
 pub use find::find_in;
+pub use search::{next, seek};

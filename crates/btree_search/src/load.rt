@@ -6,7 +6,7 @@ ghost use Rattle.pair_types.specs.declared.slot.Slot.{Slot};
 ghost use Rattle.pair_types.specs.declared.fault.PairFault.TheVariants.{Odd};
 ghost use Rattle.btree_page.specs.Content.{Content};
 ghost use Rattle.btree_search.specs.Found.{OnlyReads, HasCause};
-ghost use Rattle.btree_search.specs.Walk.{IsShown, LeadsAt};
+ghost use Rattle.btree_search.specs.Walk.{IsShown, LeadsAt, HasNoChild, IsChildPage};
 
 use btree_page::{Cell, PageView};
 use pair_types::{Page, Pages, PairFault, Slot};
@@ -48,5 +48,22 @@ pub(crate) fn child_at(view: &PageView<'_>, i: usize) -> Result<Slot, PairFault>
     match view.cell(i) {
         Some(Cell::Inner { child, .. }) => Ok(child),
         _ => Err(PairFault::Odd),
+    }
+}
+
+/// The page of the child to which a cell leads.
+pub(crate) fn load_child<G: Pages>(
+    pages: &mut G,
+    view: &PageView<'_>,
+    i: usize,
+) -> Result<Page, PairFault>
+    ensures page { IfOk result (λ page. IsChildPage (G.state pages.old) (G.state pages.new) view.now.cells i page) }
+    ensures only_reads { OnlyReads (G.state pages.old) (G.state pages.new) }
+    ensures fault { IfErr result (λ fault.
+        HasCause (G.state pages.old) (G.state pages.new) (HasNoChild view.now.cells i) fault) }
+{
+    match child_at(view, i) {
+        Ok(slot) => load(pages, slot),
+        Err(fault) => Err(fault),
     }
 }
