@@ -81,7 +81,7 @@ page_there old new slot page under bytes reads agrees within there =
     ∙ (ap (λ (held : Option (List ℕ)). page_of (laid (new.writes slot) held)) (sym is)
     ∙ ap (λ (held : Option (List ℕ)). page_of held) there)
 
-some_of : (o : Option (List ℕ)) (bytes : List ℕ) → o ≡ Some bytes → IsSome o
+pub some_of : (o : Option (List ℕ)) (bytes : List ℕ) → o ≡ Some bytes → IsSome o
 some_of o bytes e = rw e refl
 
 -- one slot holds one page

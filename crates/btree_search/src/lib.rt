@@ -14,3 +14,6 @@ mod walk;
 
 pub use find::find_in;
 pub use search::{next, seek};
+
+#[cfg(test)]
+mod tests;
