@@ -42,9 +42,9 @@ between_low is_leaf aim pair cells low high middle x rules h from to at sought =
   after = λ k le e there. ⊎_elim
       (λ lt. sought_above aim (bound_of x) (bound_of e) pair (cells_rise is_leaf _ cells middle k x e rules lt at there) sought)
       (λ ge.
-          let is : k ≡ middle = omega arith in
-          let same = the_same x e cells middle at (subst (λ (n : ℕ). slice_get cells n ≡ Some e) is there) in
-          subst (λ (y : Entry). seeks aim pair y ≡ true) same sought)
+      let is : k ≡ middle = omega arith in
+      let same = the_same x e cells middle at (subst (λ (n : ℕ). slice_get cells n ≡ Some e) is there) in
+      subst (λ (y : Entry). seeks aim pair y ≡ true) same sought)
       (cases_lt middle k);
 }
 
@@ -57,9 +57,9 @@ between_high is_leaf aim pair cells low high middle x rules h from to at unsough
   before = λ k lt e there. ⊎_elim
       (λ below. unsought_below aim (bound_of e) (bound_of x) pair (cells_rise is_leaf _ cells k middle e x rules below there at) unsought)
       (λ ge.
-          let is : k ≡ middle = omega arith in
-          let same = the_same x e cells middle at (subst (λ (n : ℕ). slice_get cells n ≡ Some e) is there) in
-          subst (λ (y : Entry). seeks aim pair y ≡ false) same unsought)
+      let is : k ≡ middle = omega arith in
+      let same = the_same x e cells middle at (subst (λ (n : ℕ). slice_get cells n ≡ Some e) is there) in
+      subst (λ (y : Entry). seeks aim pair y ≡ false) same unsought)
       (cases_lt k middle);
   after = h.after;
 }

@@ -64,9 +64,9 @@ first_found aim pair quads (Some q) rules h = record {
   least = all_cells (NotBelow aim pair q) quads (λ k r at. ⊎_elim
       (λ lt. λ r_sought below. true_false _ (h.1.before k lt (quad_cell r) at) r_sought)
       (λ le. ⊎_elim
-          (λ gt. λ r_sought below. not_both (quad_bound q) (quad_bound r) (cells_rise true None (map quad_cell quads) h.0 k (quad_cell q) (quad_cell r) rules gt h.2 at) below)
-          (λ ge. λ r_sought below. itself k r (omega arith) at below)
-          (cases_lt h.0 k))
+      (λ gt. λ r_sought below. not_both (quad_bound q) (quad_bound r) (cells_rise true None (map quad_cell quads) h.0 k (quad_cell q) (quad_cell r) rules gt h.2 at) below)
+      (λ ge. λ r_sought below. itself k r (omega arith) at below)
+      (cases_lt h.0 k))
       (cases_lt k h.0));
 }
   where

@@ -201,7 +201,7 @@ lost aim pair a b c content i fault inner lt h only cause =
       only = later.only;
       answer = cause_later a b c (HasNoChild content.cells i) (HasNoPart c content) fault h.only
           (λ none under quads part.
-              let o = opened aim pair a c content i (content.level - 1) under quads later (level_above _ inner) lt part in none o.child o.leads)
+          let o = opened aim pair a c content i (content.level - 1) under quads later (level_above _ inner) lt part in none o.child o.leads)
           cause;
     }
 
@@ -229,8 +229,8 @@ gave_up aim pair a b c d content below i page fault inner lt h only read shown w
       only = last.only;
       answer = cause_later a c d (HasNoPart d below) (HasNoPart d content) fault later.only
           (λ none under quads part.
-              let o = opened aim pair a d content i (content.level - 1) under quads last (level_above _ inner) lt part in
-              none under o.here (child_part aim pair b c d content below i (content.level - 1) page under quads read walks.only shown part o))
+          let o = opened aim pair a d content i (content.level - 1) under quads last (level_above _ inner) lt part in
+          none under o.here (child_part aim pair b c d content below i (content.level - 1) page under quads read walks.only shown part o))
           walks.answer;
     }
 

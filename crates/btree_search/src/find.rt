@@ -40,9 +40,20 @@ fn is_sought_at(view: &PageView<'_>, i: usize, aim: Aim, key: &[u8], birth: u64)
         → result ≡ seeks aim (record { key = key.now; birth = birth }) e }
 {
     match view.cell(i) {
-        Some(Cell::Leaf { key: at, birth: born, .. }) | Some(Cell::Inner { key: at, birth: born, .. }) => {
-            aim.takes(at.cmp(key).then(born.cmp(&birth)))
-        }
+        Some(
+            Cell::Leaf {
+                key: at,
+                birth: born,
+                ..
+            },
+        )
+        | Some(
+            Cell::Inner {
+                key: at,
+                birth: born,
+                ..
+            },
+        ) => { aim.takes(at.cmp(key).then(born.cmp(&birth))) }
         None => true,
     }
 }

@@ -37,7 +37,12 @@ fn shown(found: Option<Quad>) -> Option<(u64, u64, usize)> {
 fn the_least_record_is_found_beyond_an_empty_leaf(rt: HostRuntime) -> Result<(), Fail> {
     let alloc = rt.alloc();
     let mut pages = three_leaves(alloc)?;
-    let cases: [(&[u8], u64, Option<(u64, u64, usize)>, Option<(u64, u64, usize)>); 8] = [
+    let cases: [(
+        &[u8],
+        u64,
+        Option<(u64, u64, usize)>,
+        Option<(u64, u64, usize)>,
+    ); 8] = [
         (b"", 0, Some((5, 9, 3)), Some((5, 9, 3))),
         (b"a", 5, Some((5, 9, 3)), Some((5, 7, 3))),
         (b"b", 5, Some((5, 7, 3)), Some((7, 9, 5))),

@@ -45,12 +45,14 @@ fn first_in(
     ensures fault { IfErr result (λ fault. IsLeafFault view.now.cells fault) }
 {
     match view.cell(first_sought(view, aim, key, birth)) {
-        Some(Cell::Leaf {
-            key,
-            birth,
-            death,
-            value,
-        }) => Ok(Some(copy_of(alloc, key, birth, death, value)?)),
+        Some(
+            Cell::Leaf {
+                key,
+                birth,
+                death,
+                value,
+            },
+        ) => Ok(Some(copy_of(alloc, key, birth, death, value)?)),
         Some(Cell::Inner { .. }) => Err(PairFault::Odd),
         None => Ok(None),
     }
