@@ -9,7 +9,7 @@ use Rattle.std.proofs.lemmas.List.{length-append, length-take, take_all, append-
 use Rattle.cursor.specs.Position.{Position}
 use Rattle.btree_page.specs.declared.format.PageFormat.{PageFormat}
 use Rattle.btree_page.specs.declared.format.PageFormat.TheVariants.{Malformed}
-use Rattle.btree_page.specs.Content.{Entry, Content, head, spelling, entry_spelling, Spells}
+use Rattle.btree_page.specs.Content.{Entry, Content, head, spelling, entry_spelling, IsPage, Spells}
 use Rattle.btree_page.specs.Reading.{◌>>=◌, Ahead, ahead, fails, number_at, head_at, cells_at, plain_at, page_at, from_place, value_of, cell_in}
 use Rattle.btree_page.specs.View.{StandsAt, IsIndex, IsTable, content_in, content_of, IsIndexed}
 use Rattle.btree_page.proofs.Fields.{IsBytes, IsBytes-take, small, bind_ok, bind_by, bind_err, test_ok, ok_is, Takes, Takes-then, past, wide8, wide16, number_takes, number_again}
@@ -94,8 +94,9 @@ whole_text text n le same = take_all 8192 text (omega (arith, length-take 8192 t
 pub indexed_so : (text : List ℕ) (level count : ℕ) (table : List ℕ) (from now : Position) → from.text ≡ take 8192 text
     → now.text ≡ from.text → now.place ≤ length now.text → now.place ≡ length text
     → head_at (start text) ≡ Ok ((level, count), ahead from) → IsTable (level == 0) count from now table
+    → (page_at text ≡ Ok (content_of text) → IsPage (content_of text))
     → IsIndexed text level count table
-indexed_so text level count table from now cut kept within end e made =
+indexed_so text level count table from now cut kept within end e made rules =
     let index : IsIndex (level == 0) count from.text (ahead from) (ahead now) table made.0 = made.1 in
     let read : page_at text ≡ Ok (record { level = level; cells = made.0 }) =
     page_reads text ((level, count), ahead from) (made.0, ahead now) e index.read end in
@@ -104,6 +105,7 @@ indexed_so text level count table from now cut kept within end e made =
     cut ∙ whole_text text now.place (omega (arith, within, ap (λ (xs : List ℕ). length xs) kept, ap (λ (xs : List ℕ). length xs) cut)) end in
     record {
       read = read ∙ ap (λ (c : Content). Ok c) (sym is);
+      rules = rules (read ∙ ap (λ (c : Content). Ok c) (sym is));
       level = ap (λ (c : Content). c.level) is;
       count = ap (λ (c : Content). length c.cells) is ∙ cells_count_of (level == 0) count from.text (ahead from) (ahead now) table made.0 index;
       few = index.few;

@@ -2,7 +2,7 @@
 use Rattle.std.specs.Prelude.{ℕ, ◌≡◌, ◌<◌, ◌≤◌, ◌==◌, Bool, List, [], length, Option, None, Result, Ok, Err, slice_get, slice_index}
 use Rattle.btree_page.specs.declared.format.PageFormat.{PageFormat}
 use Rattle.cursor.specs.Position.{Position}
-use Rattle.btree_page.specs.Content.{Entry, Content}
+use Rattle.btree_page.specs.Content.{Entry, Content, IsPage}
 use Rattle.btree_page.specs.Reading.{Ahead, ahead, cells_at, cell_in, page_at}
 
 -- what stands at a place of a text is this cell, if there is one
@@ -31,6 +31,7 @@ content_of text = content_in (page_at text)
 -- the text is a page of this level and with this many cells, whose places the table has
 pub record IsIndexed (text : List ℕ) (on cells : ℕ) (table : List ℕ) : Type 0 where
   pub read : page_at text ≡ Ok (content_of text)
+  pub rules : IsPage (content_of text)
   pub level : (content_of text).level ≡ on
   pub count : length (content_of text).cells ≡ cells
   pub few : cells ≤ 410

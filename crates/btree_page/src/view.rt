@@ -1,7 +1,7 @@
 //! A page, seen as its cells.
 
 ghost use Rattle.std.specs.Prelude.{◌≡◌, ◌+◌, ◌*◌, ◌<◌, ◌≤◌, ◌↔◌, length, take, None, slice_get, IsNone, IfSome, IfOk, IfErr, IsOkAnd, OnOk, MatchResult};
-ghost use Rattle.btree_page.specs.Content.{Content, Spells};
+ghost use Rattle.btree_page.specs.Content.{Content, IsPage, Spells};
 ghost use Rattle.btree_page.specs.Cells.{entry_of};
 ghost use Rattle.btree_page.specs.Reading.{ahead, cells_at, page_at};
 ghost use Rattle.btree_page.specs.View.{IsTable};
@@ -110,9 +110,10 @@ impl<'a> PageView<'a> {
         u32::from(self.level)
     }
 
-    /// How many cells the page has.
+    /// How many cells the page has. Whatever a view shows keeps the rules of a page.
     pub fn count(&self) -> usize
         ensures count { result ≡ length self.now.cells }
+        ensures rules { IsPage self.now }
     {
         usize::from(self.count)
     }

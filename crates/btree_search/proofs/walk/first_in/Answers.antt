@@ -1,0 +1,8 @@
+use Rattle.std.proofs.Common.{refl}
+use Rattle.btree_search.proofs.Leaves.{no_leaf_cell}
+use Rattle.btree_search.proofs.walk.first_in.Goals as goal
+
+pub returns-in-Some-Inner-clause-fault : goal.returns-in-Some-Inner-clause-fault
+returns-in-Some-Inner-clause-fault c =
+    let there = rw c.in-Some-Inner.field-0-is at c.in-Some-Inner.ensures.cell in
+    λ quads is. no_leaf_cell c.args.view.now.cells c.first_sought.result _ quads c.in-Some-Inner.field-0-2 there refl is

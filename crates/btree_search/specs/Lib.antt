@@ -1,0 +1,4 @@
+pub mod Aim
+pub mod Find
+pub mod Found
+pub mod Walk

@@ -1,0 +1,81 @@
+//! Search in a tree.
+
+ghost use Rattle.std.specs.Prelude.{◌≡◌, IfOk, IfErr};
+ghost use Rattle.btree_search.specs.declared.aim.Aim.TheVariants.{AtOrAfter, After};
+ghost use Rattle.btree_search.specs.Found.{IsFoundIn, HasNoTree, OnlyReads, HasCause};
+
+use crate::aim::Aim;
+use crate::load::{load, view_of};
+use crate::walk::walk;
+use pair_types::{Pages, PairFault, Quad, Slot};
+use std::alloc::Global;
+
+/// Where the root of a tree lies.
+const ROOT: Slot = Slot {
+    store: 0,
+    number: 0,
+};
+
+/// The highest level of a root.
+const HEIGHT: u32 = 64;
+
+/// The least record of the tree at or after a key and a birth. It writes nothing.
+pub fn seek<G: Pages>(
+    alloc: Global,
+    pages: &mut G,
+    key: &[u8],
+    birth: u64,
+) -> Result<Option<Quad>, PairFault>
+    // `None` where no record is at or after them.
+    ensures found { IfOk result (λ found.
+        IsFoundIn AtOrAfter (record { key = key.now; birth = birth }) (G.state pages.new) found) }
+    ensures only_reads { OnlyReads (G.state pages.old) (G.state pages.new) }
+    // `Odd` where the pages are not those of a tree, and any other fault where a read answered it.
+    ensures fault { IfErr result (λ fault.
+        HasCause (G.state pages.old) (G.state pages.new) (HasNoTree (G.state pages.new)) fault) }
+{
+    search(alloc, pages, Aim::AtOrAfter, key, birth)
+}
+
+/// The least record of the tree after a key and a birth. It writes nothing.
+pub fn next<G: Pages>(
+    alloc: Global,
+    pages: &mut G,
+    key: &[u8],
+    birth: u64,
+) -> Result<Option<Quad>, PairFault>
+    // `None` where no record is after them.
+    ensures found { IfOk result (λ found.
+        IsFoundIn After (record { key = key.now; birth = birth }) (G.state pages.new) found) }
+    ensures only_reads { OnlyReads (G.state pages.old) (G.state pages.new) }
+    // `Odd` where the pages are not those of a tree, and any other fault where a read answered it.
+    ensures fault { IfErr result (λ fault.
+        HasCause (G.state pages.old) (G.state pages.new) (HasNoTree (G.state pages.new)) fault) }
+{
+    search(alloc, pages, Aim::After, key, birth)
+}
+
+/// The least sought record of the tree.
+fn search<G: Pages>(
+    alloc: Global,
+    pages: &mut G,
+    aim: Aim,
+    key: &[u8],
+    birth: u64,
+) -> Result<Option<Quad>, PairFault>
+    ensures found { IfOk result (λ found.
+        IsFoundIn aim (record { key = key.now; birth = birth }) (G.state pages.new) found) }
+    ensures only_reads { OnlyReads (G.state pages.old) (G.state pages.new) }
+    ensures fault { IfErr result (λ fault.
+        HasCause (G.state pages.old) (G.state pages.new) (HasNoTree (G.state pages.new)) fault) }
+{
+    let page = match load(pages, ROOT) {
+        Ok(page) => page,
+        Err(fault) => return Err(fault),
+    };
+    let view = match view_of(&page, 0, HEIGHT) {
+        Ok(view) => view,
+        Err(fault) => return Err(fault),
+    };
+    walk(alloc, pages, &view, aim, key, birth)
+}
