@@ -10,7 +10,7 @@ use Rattle.xdr_grammar.proofs.Rules.{grammar_laws}
 use Rattle.xdr_grammar.proofs.Whole.{takes_size}
 use Rattle.rpc_msg.specs.Message.{MessageHead, message_head, kind_of, HasNoCall}
 
-word_reads : (bytes : List ℕ) → 4 ≤ length bytes → word.read bytes ≡ Ok (big_number 4 (take 4 bytes), drop 4 bytes)
+pub word_reads : (bytes : List ℕ) → 4 ≤ length bytes → word.read bytes ≡ Ok (big_number 4 (take 4 bytes), drop 4 bytes)
 unfolding word
 word_reads bytes h = search (rules, nat_tests)
 

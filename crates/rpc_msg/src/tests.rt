@@ -20,3 +20,53 @@ fn heads_are_read_and_refused(rt: HostRuntime) {
     assert_eq!(rt; read_call(&reply).err(), Some(HeadFault::NotCall));
     assert_eq!(rt; read_call(&reply[..23]).err(), Some(HeadFault::Short));
 }
+
+/// Credentials and verifiers, by what they show (RFC 5531, section 8.2): who calls, and how many bytes
+/// of arguments follow, or the first refusal.
+#[test]
+fn credentials_are_read_and_refused(rt: HostRuntime) {
+    let cases: [(&[u8], Result<(u32, u32, &[u8], usize), CredFault>); 9] = [
+        // AUTH_NONE, and a byte of arguments
+        (
+            &[0, 0, 0, 0, 0, 0, 0, 0, 0, 0, 0, 0, 0, 0, 0, 0, 7],
+            Ok((65534, 65534, &[], 1)),
+        ),
+        // AUTH_SYS of machine m, user 5, group 6, and the other groups 7 and 8; a verifier of any flavor
+        (
+            &[
+                0, 0, 0, 1, 0, 0, 0, 32, 9, 9, 9, 9, 0, 0, 0, 1, 109, 0, 0, 0, 0, 0, 0, 5, 0, 0, 0,
+                6, 0, 0, 0, 2, 0, 0, 0, 7, 0, 0, 0, 8, 0, 0, 0, 6, 0, 0, 0, 0,
+            ],
+            Ok((5, 6, &[0, 0, 0, 7, 0, 0, 0, 8], 0)),
+        ),
+        // AUTH_SYS with a byte too many, and with 17 groups
+        (
+            &[0, 0, 0, 1, 0, 0, 0, 4, 0, 0, 0, 0, 0, 0, 0, 0, 0, 0, 0, 0],
+            Err(CredFault::BadCred),
+        ),
+        (
+            &[
+                0, 0, 0, 1, 0, 0, 0, 20, 0, 0, 0, 0, 0, 0, 0, 0, 0, 0, 0, 0, 0, 0, 0, 0, 0, 0, 0,
+                17, 0, 0, 0, 0, 0, 0, 0, 0,
+            ],
+            Err(CredFault::BadCred),
+        ),
+        // flavor 6
+        (
+            &[0, 0, 0, 6, 0, 0, 0, 0, 0, 0, 0, 0, 0, 0, 0, 0],
+            Err(CredFault::TooWeak),
+        ),
+        // a credential that is cut, one of 401 bytes, and the same of the verifier of flavor 6
+        (&[0, 0, 0, 0, 0, 0, 0], Err(CredFault::BadCred)),
+        (&[0, 0, 0, 0, 0, 0, 1, 145], Err(CredFault::BadCred)),
+        (
+            &[0, 0, 0, 6, 0, 0, 0, 0, 0, 0, 0, 0, 0, 0, 1, 145],
+            Err(CredFault::BadVerf),
+        ),
+        (&[], Err(CredFault::BadCred)),
+    ];
+    for (tail, wanted) in cases {
+        let read = read_cred(tail).map(|r| (r.0.uid, r.0.gid, r.0.gids, r.1.len()));
+        assert_eq!(rt; read, wanted);
+    }
+}
