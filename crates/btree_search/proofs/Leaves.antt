@@ -1,5 +1,5 @@
 -- The first sought cell of a leaf is the least sought record.
-use Rattle.std.proofs.Common.{◌≡◌, ◌≢◌, ℕ, zero, suc, ◌<◌, ◌≤◌, ⊎_elim, Bool, true, false, List, [], ◌∷◌, map, length, Option, Some, None, Result, Ok, Err, refl, sym, ap, subst, ◌∙◌, arith}
+use Rattle.std.proofs.Common.{◌≡◌, ℕ, zero, suc, ◌<◌, ⊎_elim, Bool, true, false, List, [], ◌∷◌, map, length, Option, Some, None, Result, Ok, Err, refl, sym, ap, subst, ◌∙◌, arith}
 use Rattle.std.specs.Prelude.{All, Contains, slice_get, IfOk, IfErr}
 use Rattle.std.proofs.lemmas.Bool.{cases_lt}
 use Rattle.std.proofs.lemmas.List.Elements.{All-nil, All-cons, Contains-append_left, Contains-append_right, Contains-push}
@@ -9,12 +9,11 @@ use Rattle.pair_types.specs.declared.fault.PairFault.{PairFault}
 use Rattle.pair_types.specs.declared.fault.PairFault.TheVariants.{Odd, HeightFull, Page}
 use Rattle.pair_types.specs.PageMaps.{PageMap, over}
 use Rattle.pair_types.specs.PageState.{PageState}
-use Rattle.btree_page.specs.Content.{Bound, Carries, Leads, Body, Entry, bound_of, Content, AreCells, IsBelow}
+use Rattle.btree_page.specs.Content.{Bound, Carries, Leads, Body, Entry, Content, AreCells, IsBelow}
 use Rattle.btree_page.specs.Tree.{quad_bound, quad_cell, Subtree}
 use Rattle.btree_search.specs.declared.aim.Aim.{Aim}
-use Rattle.btree_search.specs.Find.{seeks, BeginsAt}
-use Rattle.btree_search.specs.Found.{takes, IsLeast, IsFound, HasCause}
-use Rattle.btree_search.specs.Walk.{IsPart, IsFoundBelow, HasNoPart, IsFirst, IsLeafFault, Walks}
+use Rattle.btree_search.specs.Found.{takes, IsFound}
+use Rattle.btree_search.specs.Walk.{IsPart, IsFirst, IsLeafFault, Walks}
 use Rattle.btree_search.proofs.Order.{cells_rise}
 use Rattle.btree_search.proofs.Parts.{Unsought, NotBelow, not_both}
 use Rattle.btree_search.proofs.Walks.{only_same, same_content}

@@ -1,20 +1,18 @@
 -- An inner page's children one after the other, and how a search goes along them.
-use Rattle.std.proofs.Common.{◌≡◌, ◌≢◌, ℕ, zero, suc, ◌+◌, ◌<◌, ◌≤◌, Bool, true, false, List, [], ◌∷◌, ◌++◌, map, length, drop, Option, Some, None, refl, sym, ap, subst, ◌∙◌, arith, append_assoc}
+use Rattle.std.proofs.Common.{◌≡◌, ℕ, zero, suc, ◌<◌, Bool, true, false, List, [], ◌∷◌, ◌++◌, map, length, drop, Option, Some, refl, sym, ap, subst, ◌∙◌, arith, append_assoc}
 use Rattle.std.specs.Prelude.{All, Contains, slice_get}
-use Rattle.std.specs.declared.cmp.Ordering.{Ordering}
-use Rattle.std.specs.declared.cmp.Ordering.TheVariants.{Less, Equal, Greater}
 use Rattle.std.proofs.lemmas.List.{append-nil}
-use Rattle.std.proofs.lemmas.List.Elements.{All-nil, All-cons, All-append, All-weaker, All-contains, Contains-append_left, Contains-append_right}
+use Rattle.std.proofs.lemmas.List.Elements.{All-nil, All-append, All-weaker, All-contains, Contains-append_left, Contains-append_right}
 use Rattle.pair_types.specs.declared.slot.Slot.{Slot}
 use Rattle.pair_types.specs.declared.quad.Quad.{Quad}
 use Rattle.pair_types.specs.PageMaps.{PageMap}
 use Rattle.btree_page.specs.Content.{Bound, bound_cmp, IsBelow, Entry, Leads, bound_of, AreCells, inner_entry}
 use Rattle.btree_page.specs.Tree.{AllIn, quad_bound, Child, child_cell, Kids, Subtree}
 use Rattle.btree_search.specs.declared.aim.Aim.{Aim}
-use Rattle.btree_search.specs.declared.aim.Aim.TheVariants.{AtOrAfter, After}
+use Rattle.btree_search.specs.declared.aim.Aim.TheVariants.{After}
 use Rattle.btree_search.specs.Aim.{is_sought}
 use Rattle.btree_search.specs.Find.{seeks}
-use Rattle.btree_search.specs.Found.{takes, IsLeast, IsFound}
+use Rattle.btree_search.specs.Found.{takes, IsLeast}
 use Rattle.btree_search.specs.Walk.{LeadsAt}
 use Rattle.btree_search.proofs.Order.{bound_total, above_sought, greater_sought}
 use Rattle.btree_search.proofs.Ranges.{raised, subtree_in, kids_within, all_under, under_all}

@@ -1,19 +1,19 @@
 -- From the root page to the tree: what a walk below the root answers of every tree.
-use Rattle.std.proofs.Common.{◌≡◌, ◌≢◌, ℕ, ◌<◌, ◌≤◌, List, Option, Some, None, IsSome, Result, Ok, Err, refl, sym, ap, subst, ◌∙◌, arith}
+use Rattle.std.proofs.Common.{◌≡◌, ℕ, ◌<◌, List, Option, Some, None, Result, Ok, Err, sym, ap, subst, arith}
 use Rattle.std.specs.Prelude.{IfOk, IfErr}
 use Rattle.pair_types.specs.declared.slot.Slot.{Slot}
 use Rattle.pair_types.specs.declared.quad.Quad.{Quad}
 use Rattle.pair_types.specs.declared.fault.PairFault.{PairFault}
-use Rattle.pair_types.specs.declared.fault.PairFault.TheVariants.{Odd, HeightFull, Page}
+use Rattle.pair_types.specs.declared.fault.PairFault.TheVariants.{Odd}
 use Rattle.pair_types.specs.PageMaps.{PageMap, Agrees, over}
 use Rattle.pair_types.specs.PageState.{PageState, Reads}
-use Rattle.btree_page.specs.Content.{Bound, Entry, Content, Spells}
+use Rattle.btree_page.specs.Content.{Bound, Content, Spells}
 use Rattle.btree_page.specs.Tree.{Holds, Subtree, root, least, IsFormed}
 use Rattle.btree_search.specs.declared.aim.Aim.{Aim}
-use Rattle.btree_search.specs.Found.{IsFound, IsFoundIn, HasNoTree, OnlyReads, HasCause}
+use Rattle.btree_search.specs.Found.{IsFoundIn, HasNoTree, OnlyReads, HasCause}
 use Rattle.btree_search.specs.Walk.{IsPart, IsShown, Walks}
 use Rattle.btree_search.proofs.Ranges.{root_page}
-use Rattle.btree_search.proofs.Walks.{only_then, only_same, cause_later, odd_cause, agrees_before, page_there, some_of, same_content}
+use Rattle.btree_search.proofs.Walks.{only_same, cause_later, odd_cause, agrees_before, page_there, some_of, same_content}
 
 root_bytes : (old mid new : PageState) (page bytes : List ℕ) (under : PageMap) (quads : List Quad) (slots : List Slot) → Reads old mid root page
     → OnlyReads mid new → Agrees new.reads under → IsFormed new.stores (over new.writes under) quads slots

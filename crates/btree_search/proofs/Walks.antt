@@ -1,20 +1,19 @@
 -- What is read in a slot is what every tree has there, and what each step of a walk makes of its answer.
-use Rattle.std.proofs.Common.{◌≡◌, ◌≢◌, ℕ, zero, suc, ◌+◌, ◌-◌, ◌<◌, ◌≤◌, Bool, true, false, List, [], ◌∷◌, ◌++◌, map, length, drop, Option, Some, None, IsSome, is_some, unwrap_or, Result, Ok, Err, refl, sym, ap, subst, ◌∙◌, arith}
-use Rattle.std.specs.Prelude.{All, slice_get}
+use Rattle.std.proofs.Common.{◌≡◌, ◌≢◌, ℕ, zero, suc, ◌-◌, ◌<◌, ◌≤◌, true, false, List, [], ◌∷◌, map, length, drop, Option, Some, None, IsSome, is_some, unwrap_or, Ok, Err, refl, sym, ap, subst, ◌∙◌, arith}
 use Rattle.pair_types.specs.declared.slot.Slot.{Slot}
 use Rattle.pair_types.specs.declared.quad.Quad.{Quad}
 use Rattle.pair_types.specs.declared.fault.PairFault.{PairFault}
 use Rattle.pair_types.specs.declared.fault.PairFault.TheVariants.{Odd, HeightFull, Page}
-use Rattle.pair_types.specs.PageMaps.{PageMap, ReadMap, Agrees, Extends, Learns, over, laid, page_of}
-use Rattle.pair_types.specs.PageState.{PageState, Lasts, Reads}
+use Rattle.pair_types.specs.PageMaps.{PageMap, ReadMap, Agrees, Extends, over, laid, page_of}
+use Rattle.pair_types.specs.PageState.{PageState, Reads}
 use Rattle.btree_page.specs.Content.{Bound, Entry, Leads, Content, Spells, IsPage, inner_entry}
-use Rattle.btree_page.specs.Tree.{Holds, Child, child_cell, Subtree}
+use Rattle.btree_page.specs.Tree.{Holds, child_cell, Subtree}
 use Rattle.btree_page.proofs.Trees.{has_one_content}
 use Rattle.btree_search.specs.declared.aim.Aim.{Aim}
 use Rattle.btree_search.specs.declared.aim.Aim.TheVariants.{After}
-use Rattle.btree_search.specs.Find.{BeginsAt, seeks}
-use Rattle.btree_search.specs.Found.{takes, IsFound, OnlyReads, HasCause}
-use Rattle.btree_search.specs.Walk.{InStores, IsPart, IsFoundBelow, HasNoPart, IsShown, LeadsAt, HasNoChild, IsChildPage, IsAnswer, Walks}
+use Rattle.btree_search.specs.Find.{BeginsAt}
+use Rattle.btree_search.specs.Found.{OnlyReads, HasCause}
+use Rattle.btree_search.specs.Walk.{InStores, IsPart, HasNoPart, IsShown, LeadsAt, HasNoChild, IsChildPage, Walks}
 use Rattle.btree_search.proofs.Ranges.{root_page, children_rise}
 use Rattle.btree_search.proofs.Parts.{Along, along_kids, Passed, skip, Opened, opens, passes, hits, ends}
 

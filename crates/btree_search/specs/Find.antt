@@ -1,5 +1,5 @@
 -- Where the cells that are sought begin in a page.
-use Rattle.std.specs.Prelude.{ℕ, ◌≡◌, ◌<◌, ◌≤◌, Bool, true, false, List, length, Option, Some, None, slice_get}
+use Rattle.std.specs.Prelude.{ℕ, ◌≡◌, ◌<◌, ◌≤◌, Bool, true, false, List, length, Some, slice_get}
 use Rattle.btree_page.specs.Content.{Bound, bound_cmp, Entry, bound_of}
 use Rattle.btree_search.specs.declared.aim.Aim.{Aim}
 use Rattle.btree_search.specs.Aim.{is_sought}

@@ -1,10 +1,14 @@
+ghost use Rattle.std.specs.Prelude.{◌≡◌};
+
 use super::*;
 use btree_page::{PageBuilder, PageView};
 use pair_types::{MemPages, PairFault, Quad, Slot};
 use std::alloc::Global;
 use std::test::*;
 
-fn slot(number: u64) -> Slot {
+fn slot(number: u64) -> Slot
+    ensures { result.store ≡ 0 }
+{
     Slot { store: 0, number }
 }
 
@@ -64,7 +68,7 @@ fn pages_that_are_no_tree_are_odd(rt: HostRuntime) -> Result<(), Fail> {
     let alloc = rt.alloc();
     let mut nothing = MemPages::new(alloc, 1);
     assert!(rt; matches!(seek(alloc, &mut nothing, b"", 0), Err(PairFault::Odd)));
-    let mut pages = three_leaves(alloc)?;
+    let mut pages = MemPages::new(alloc, 1);
     let mut itself = PageBuilder::new(alloc, 1)?;
     itself.add_inner(b"", 0, slot(0))?;
     itself.add_inner(b"c", 0, slot(0))?;

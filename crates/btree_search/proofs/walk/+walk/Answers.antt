@@ -1,4 +1,4 @@
-use Rattle.std.proofs.Common.{◌≡◌, ◌≢◌, ◌-◌, ◌<◌, ◌≤◌, ℕ, List, length, refl, sym, ◌∙◌, arith, add-one}
+use Rattle.std.proofs.Common.{◌≡◌, ◌≢◌, sym, ◌∙◌, arith, add-one}
 use Rattle.btree_search.proofs.Leaves.{at_leaf_any}
 use Rattle.btree_search.proofs.Walks.{starts, lost, misshown, gave_up, hit, miss, last}
 use Rattle.btree_search.proofs.walk.+walk.Goals as goal
