@@ -1,6 +1,6 @@
 //! The credential and the verifier of a call.
 
-ghost use Rattle.std.specs.Prelude.{◌≡◌, Ok, Err, IfOk, IfErr};
+ghost use Rattle.std.specs.Prelude.{◌≡◌, ◌%◌, length, Ok, Err, IfOk, IfErr};
 ghost use Rattle.xdr_grammar.specs.Reading.{Gives, GivesWhole};
 ghost use Rattle.xdr_grammar.specs.Laws.{Laws};
 ghost use Rattle.xdr_grammar.specs.Items.{word};
@@ -74,7 +74,8 @@ fn read_auth<'a>(reader: &mut Reader<'a>) -> Result<Auth<'a>, XdrFault>
 
 /// The next array of at most 16 words, left where they stand.
 fn read_gids<'a>(reader: &mut Reader<'a>) -> Result<&'a [u8], XdrFault>
-    ensures { Gives (array 16 word) (λ gids. words_in gids.now) reader.old reader.new result }
+    ensures gives { Gives (array 16 word) (λ gids. words_in gids.now) reader.old reader.new result }
+    ensures whole { IfOk result (λ gids. length gids.now % 4 ≡ 0) }
 {
     let n = reader.word()?;
     if n > MOST_GIDS {
@@ -95,7 +96,8 @@ struct Parms<'a> {
 
 #[tactic(auto, unfolding(crate::specs::Auth::auth_sys))]
 fn read_parms<'a>(reader: &mut Reader<'a>) -> Result<Parms<'a>, XdrFault>
-    ensures { Gives auth_sys (λ a. record { stamp = a.stamp; machinename = a.machinename.now; uid = a.uid; gid = a.gid; gids = words_in a.gids.now }) reader.old reader.new result }
+    ensures whole { IfOk result (λ a. length a.gids.now % 4 ≡ 0) }
+    ensures gives { Gives auth_sys (λ a. record { stamp = a.stamp; machinename = a.machinename.now; uid = a.uid; gid = a.gid; gids = words_in a.gids.now }) reader.old reader.new result }
 {
     Ok(Parms {
         stamp: reader.word()?,
@@ -108,7 +110,8 @@ fn read_parms<'a>(reader: &mut Reader<'a>) -> Result<Parms<'a>, XdrFault>
 
 /// What the body of a credential of flavor AUTH_SYS says.
 fn parms_of(body: &[u8]) -> Result<Parms<'_>, XdrFault>
-    ensures { GivesWhole (λ a. record { stamp = a.stamp; machinename = a.machinename.now; uid = a.uid; gid = a.gid; gids = words_in a.gids.now }) (whole auth_sys body.now) result }
+    ensures whole { IfOk result (λ a. length a.gids.now % 4 ≡ 0) }
+    ensures gives { GivesWhole (λ a. record { stamp = a.stamp; machinename = a.machinename.now; uid = a.uid; gid = a.gid; gids = words_in a.gids.now }) (whole auth_sys body.now) result }
 {
     let mut reader = Reader::new(body);
     let parms = read_parms(&mut reader)?;
@@ -119,6 +122,7 @@ fn parms_of(body: &[u8]) -> Result<Parms<'_>, XdrFault>
 /// Who calls with a credential.
 #[tactic(auto, unfolding(crate::specs::Auth::caller_of, crate::specs::Auth::words_in))]
 fn who_of(flavor: u32, body: &[u8]) -> Result<Who<'_>, CredFault>
+    ensures whole { IfOk result (λ who. length who.gids.now % 4 ≡ 0) }
     ensures ok { IfOk result (λ who. caller_of (record { flavor = flavor; body = body.now }) ≡ Ok (record { uid = who.uid; gid = who.gid; gids = words_in who.gids.now })) }
     ensures err { IfErr result (λ fault. caller_of (record { flavor = flavor; body = body.now }) ≡ Err fault) }
 {
@@ -145,6 +149,7 @@ fn who_of(flavor: u32, body: &[u8]) -> Result<Who<'_>, CredFault>
 /// that does not read, and then what the credential says. It takes no memory.
 #[tactic(auto, unfolding(crate::specs::Auth::credential_of))]
 pub fn read_cred(tail: &[u8]) -> Result<(Who<'_>, &[u8]), CredFault>
+    ensures whole { IfOk result (λ r. length r.0.gids.now % 4 ≡ 0) }
     ensures who { IfOk result (λ r. credential_of tail.now ≡ Ok ((record { uid = r.0.uid; gid = r.0.gid; gids = words_in r.0.gids.now }), r.1.now)) }
     ensures fault { IfErr result (λ fault. credential_of tail.now ≡ Err fault) }
 {
