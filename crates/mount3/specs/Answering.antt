@@ -1,25 +1,11 @@
 -- What this service answers to MOUNT calls: it exports one directory, `/`, to all hosts, and keeps no
 -- list of who has mounted it.
 use Rattle.std.specs.Prelude.{◌≡◌, ℕ, ◌==◌, if◌then◌else◌, List, [], ◌∷◌, ◌++◌, codes, bytes_eq, Ok}
-use Rattle.xdr_grammar.specs.Grammar.{Grammar, ◌at◌, ◌>>=◌, done}
-use Rattle.xdr_grammar.specs.Items.{hyper}
 use Rattle.xdr_grammar.specs.Whole.{whole}
+use Rattle.nfs3_types.specs.Handles.{handle}
 use Rattle.mount3.specs.Protocol.{arguments, MountResult, Mount, Refusal, mount_result, mount_list, exports}
 
--- what a handle says: the file system, the snapshot, which is 0 in the live tree, and the file
-pub record Node : Type 0 where
-  pub fsid : ℕ
-  pub snapshot : ℕ
-  pub fileid : ℕ
-
-unfoldable pub handle : Grammar Node
-handle = do
-  fsid ← hyper at (λ n. n.fsid)
-  snapshot ← hyper at (λ n. n.snapshot)
-  fileid ← hyper at (λ n. n.fileid)
-  done (record { fsid = fsid; snapshot = snapshot; fileid = fileid })
-
--- the exported directory, which is the root of the file system: file 1 of the live tree
+-- the exported directory, which is the root of the file system: file 1 of the live tree, which is snapshot 0
 abbrev pub root : List ℕ
 root = codes "/"
 

@@ -1,4 +1,5 @@
 use super::*;
+use std::alloc::Global;
 use std::test::*;
 
 #[test]
@@ -14,5 +15,108 @@ fn a_text_is_made_copied_and_given_back(rt: HostRuntime) -> Result<(), Fail> {
     assert!(rt; Text::new(rt.alloc()).is_empty());
     let error = NoMemory;
     assert_eq!(rt; format!(in rt.alloc(); "{error}")?.as_str(), "no memory");
+    Ok(())
+}
+
+#[test]
+fn a_handle_is_the_24_bytes_of_its_numbers(rt: HostRuntime) -> Result<(), Fail> {
+    let handle = Handle {
+        fsid: 1 << 32,
+        snapshot: 2,
+        fileid: 0x0102_0304_0506_0708,
+    };
+    let text = b"\0\0\0\x01\0\0\0\0\0\0\0\0\0\0\0\x02\x01\x02\x03\x04\x05\x06\x07\x08";
+    assert_eq!(rt; handle.spell().as_slice(), text.as_slice());
+    assert_eq!(rt; Handle::of(text), Some(handle));
+    assert_eq!(rt; Handle::of(&text[1..]), None);
+    Ok(())
+}
+
+const SATTR: Sattr = Sattr {
+    mode: Some(0o644),
+    uid: None,
+    gid: Some(7),
+    size: None,
+    atime: SetTime::ServerTime,
+    mtime: SetTime::ClientTime(Moment {
+        seconds: 3,
+        nanos: 4,
+    }),
+};
+
+fn place() -> DirOp<TextRef<'static>> {
+    DirOp {
+        directory: TextRef::new(b"directory"),
+        name: TextRef::new(b"name"),
+    }
+}
+
+#[test]
+fn an_owned_call_is_lent_as_it_was(rt: HostRuntime) -> Result<(), Fail> {
+    let lent = CallOver::Symlink(SymlinkArgs {
+        place: place(),
+        attributes: SATTR,
+        target: TextRef::new(b"target"),
+    });
+    let own = own_call(rt.alloc(), &lent)?;
+    assert_eq!(rt; own.procedure(), 10);
+    assert_eq!(rt;
+        format!(in rt.alloc(); "{:?}", own.lend())?.as_str(),
+        format!(in rt.alloc(); "{lent:?}")?.as_str()
+    );
+    Ok(())
+}
+
+fn listed(alloc: Global) -> Result<Body, Fail> {
+    let mut entries = Vec::new(alloc);
+    entries.push(DirEntryPlus {
+        fileid: 1,
+        name: Text::from_slice(alloc, b".")?,
+        cookie: 1,
+        attributes: None,
+        object: Some(Text::from_slice(alloc, b"handle")?),
+    })?;
+    entries.push(DirEntryPlus {
+        fileid: 16,
+        name: Text::from_slice(alloc, b"notes")?,
+        cookie: 3,
+        attributes: None,
+        object: None,
+    })?;
+    Ok(Body::ReadDirPlus(ReadDirPlusOk {
+        attributes: None,
+        verifier: [0; 8],
+        entries: ListOf::from_vec(entries),
+        eof: true,
+    }))
+}
+
+#[test]
+fn an_entry_is_copied_whole(rt: HostRuntime) -> Result<(), Fail> {
+    let entry = Entry {
+        pass: 1,
+        serial: 2,
+        cred: Cred {
+            uid: 65534,
+            gid: 65534,
+            gids: Text::from_slice(rt.alloc(), b"\0\0\0\x07")?,
+        },
+        call: own_call(rt.alloc(), &CallOver::Remove(place()))?,
+        moment: Moment {
+            seconds: 1000,
+            nanos: 5,
+        },
+        lane: 15,
+        reply: Reply {
+            procedure: 17,
+            status: Status::Ok,
+            body: listed(rt.alloc())?,
+        },
+    };
+    let copy = entry.copy(rt.alloc())?;
+    assert_eq!(rt;
+        format!(in rt.alloc(); "{copy:?}")?.as_str(),
+        format!(in rt.alloc(); "{entry:?}")?.as_str()
+    );
     Ok(())
 }

@@ -3,6 +3,7 @@
 ghost use Rattle.std.specs.Prelude.{◌≡◌, ◌==◌, [], length, IfOk};
 
 use crate::memory::NoMemory;
+use crate::text_ref::TextRef;
 use std::alloc::Global;
 use std::marker::Model;
 
@@ -58,6 +59,13 @@ impl Text {
         ensures { result.now ≡ self.now }
     {
         &self.bytes
+    }
+
+    /// The text, lent.
+    pub fn lend(&self) -> TextRef<'_>
+        ensures { result ≡ self.now }
+    {
+        TextRef::new(&self.bytes)
     }
 
     /// How many bytes there are.

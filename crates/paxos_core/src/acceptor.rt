@@ -3,9 +3,8 @@
 ghost use Rattle.std.specs.Prelude.{◌≡◌, ◌≢◌, ℕ, ◌<◌, ◌↔◌, if◌then◌else◌, IsNone, IsSomeAnd, MatchOption, IfOk, OnOk, OnErr};
 
 use crate::ballot::Ballot;
-use crate::copies::Copies;
 use crate::message::Message;
-use nfs3_types::NoMemory;
+use nfs3_types::{Copies, NoMemory};
 use std::alloc::Global;
 use std::collections::BTreeMap;
 

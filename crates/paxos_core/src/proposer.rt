@@ -7,9 +7,8 @@ ghost use Rattle.paxos_core.specs.declared.message.Message.TheVariants.{Promise,
 
 use crate::acceptor::copy_of;
 use crate::ballot::Ballot;
-use crate::copies::Copies;
 use crate::message::Message;
-use nfs3_types::NoMemory;
+use nfs3_types::{Copies, NoMemory};
 use std::alloc::Global;
 use std::marker::Model;
 

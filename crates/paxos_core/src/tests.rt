@@ -1,5 +1,5 @@
 use super::*;
-use nfs3_types::NoMemory;
+use nfs3_types::{Copies, NoMemory};
 use std::alloc::Global;
 use std::test::*;
 

@@ -6,10 +6,11 @@
 //! It stands on `xdr_grammar` for what is spelled how, and on `cursor` for the place in a text.
 #![tactic(auto)]
 
-mod padding;
+mod pad;
 mod put;
 mod reader;
 
+pub use pad::padding;
 pub use put::{put_fixed, put_hyper, put_opaque, put_truth, put_word};
 pub use reader::Reader;
 

@@ -4,7 +4,7 @@ ghost use Rattle.std.specs.Prelude.{◌≡◌, ℕ, ◌+◌, ◌<◌, ◌≤◌,
 ghost use Rattle.xdr_grammar.specs.Items.{word, hyper, truth, fixed, opaque};
 ghost use Rattle.xdr_grammar.specs.Items.{padding as padding_of};
 
-use crate::padding::{padding, zeros};
+use crate::pad::{padding, zeros};
 use nfs3_types::NoMemory;
 
 /// Adds a word.

@@ -6,7 +6,7 @@ ghost use Rattle.xdr_grammar.specs.Items.{padding as padding_of};
 ghost use Rattle.xdr_grammar.specs.Reading.{Gives};
 ghost use Rattle.xdr.specs.Words.{FrontWord};
 
-use crate::padding::padding;
+use crate::pad::padding;
 use byteorder::{BigEndian, ByteOrder};
 use cursor::Cursor;
 use std::marker::Model;

@@ -3,6 +3,7 @@ pub mod Composed
 pub mod Items
 pub mod Fits
 pub mod Choices
+pub mod Enumerations
 pub mod Whole
 pub mod Entries
 pub mod Arrays

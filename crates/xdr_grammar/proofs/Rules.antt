@@ -11,6 +11,7 @@ use Rattle.xdr_grammar.specs.Laws.{AllSpelled}
 use Rattle.xdr_grammar.proofs.Composed.{both-laws, done-laws}
 use Rattle.xdr_grammar.proofs.Items.{word-laws, hyper-laws, tested-laws, pick-laws, truth-laws, fixed-laws, opaque-laws}
 use Rattle.xdr_grammar.proofs.Choices.{either-laws, in_case-laws, optional-laws}
+use Rattle.xdr_grammar.proofs.Enumerations.{enumeration-laws}
 use Rattle.xdr_grammar.proofs.Entries.{entries-laws}
 use Rattle.xdr_grammar.proofs.Arrays.{items-laws, array-laws}
 
@@ -53,6 +54,7 @@ pub ruleset grammar_laws = (
   either-laws,
   in_case-laws,
   optional-laws,
+  enumeration-laws,
   entries-laws,
   items-laws,
   array-laws,

@@ -1,6 +1,7 @@
 pub mod Grammar
 pub mod Items
 pub mod Choices
+pub mod Enumerations
 pub mod Entries
 pub mod Arrays
 pub mod Whole

@@ -2,11 +2,12 @@
 //! the clause holds. Proofs of other crates cite the same laws as lemmas of `proofs/`, or find them
 //! by `search grammar_laws`.
 
-ghost use Rattle.std.specs.Prelude.{◌≡◌, ℕ, Bool, Option};
+ghost use Rattle.std.specs.Prelude.{◌≡◌, ℕ, Bool, List, Option};
 ghost use Rattle.xdr_grammar.specs.declared.fault.XdrFault.{XdrFault};
 ghost use Rattle.xdr_grammar.specs.Grammar.{Grammar, Part, ◌>>=◌ as ◌then◌, done};
 ghost use Rattle.xdr_grammar.specs.Items.{word, hyper, truth, pick, tested, fixed, opaque};
 ghost use Rattle.xdr_grammar.specs.Choices.{either, in_case, optional};
+ghost use Rattle.xdr_grammar.specs.Enumerations.{enumeration};
 ghost use Rattle.xdr_grammar.specs.Entries.{entries};
 ghost use Rattle.xdr_grammar.specs.Arrays.{items, array};
 ghost use Rattle.xdr_grammar.specs.Whole.{WholeLaws};
@@ -46,7 +47,7 @@ pub fn truth_is_lawful()
     ensures { Laws truth }
 {}
 
-/// An enumeration.
+/// An enumeration whose numbers are those of a range.
 pub fn pick_is_lawful(low: u32, high: u32)
     ensures { Laws (pick low high) }
 {}
@@ -55,6 +56,11 @@ pub fn pick_is_lawful(low: u32, high: u32)
 pub fn bytes_are_lawful(n: u32)
     ensures fixed { Laws (fixed n) }
     ensures opaque { Laws (opaque n) }
+{}
+
+/// An enumeration whose values are named one by one.
+pub fn enumeration_is_lawful<V>()
+    ensures { (any : V) (number : V → ℕ) (values : List V) → Laws (enumeration any number values) }
 {}
 
 /// An item under a test.

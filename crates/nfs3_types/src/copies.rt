@@ -2,7 +2,7 @@
 
 ghost use Rattle.std.specs.Prelude.{◌≡◌, IfOk};
 
-use nfs3_types::NoMemory;
+use crate::memory::NoMemory;
 use std::alloc::Global;
 
 /// A value that can be copied, where there is memory for it.

@@ -1,0 +1,4 @@
+pub mod HandleLaws
+pub mod AttributeLaws
+pub mod CallLaws
+pub mod ReplyLaws
