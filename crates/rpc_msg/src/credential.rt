@@ -8,6 +8,8 @@ ghost use Rattle.xdr_grammar.specs.Arrays.{array};
 ghost use Rattle.xdr_grammar.specs.Whole.{whole};
 ghost use Rattle.rpc_msg.specs.Auth.{opaque_auth, auth_sys, caller_of, credential_of, words_in};
 
+use nfs3_types::{Cred, NoMemory, Text};
+use std::alloc::Global;
 use thiserror::Error;
 use xdr::Reader;
 use xdr_grammar::XdrFault;
@@ -162,6 +164,19 @@ pub fn read_cred(tail: &[u8]) -> Result<(Who<'_>, &[u8]), CredFault>
     };
     let who = who_of(credential.flavor, credential.body)?;
     Ok((who, reader.rest()))
+}
+
+/// Who calls, owned, or `NoMemory`.
+pub fn own_cred(alloc: Global, who: &Who<'_>) -> Result<Cred, NoMemory>
+    ensures uid { IfOk result (λ cred. cred.uid ≡ who.now.uid) }
+    ensures gid { IfOk result (λ cred. cred.gid ≡ who.now.gid) }
+    ensures gids { IfOk result (λ cred. cred.gids ≡ who.now.gids.now) }
+{
+    Ok(Cred {
+        uid: who.uid,
+        gid: who.gid,
+        gids: Text::from_slice(alloc, who.gids)?,
+    })
 }
 
 /// Credentials, verifiers and what AUTH_SYS says are lawful grammars: they are read as they are

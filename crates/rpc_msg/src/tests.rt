@@ -1,4 +1,5 @@
 use super::*;
+use std::test::*;
 
 /// The head of a call of NULL, xid 1, and a byte behind it.
 const CALL: [u8; 25] = [
@@ -69,4 +70,42 @@ fn credentials_are_read_and_refused(rt: HostRuntime) {
         let read = read_cred(tail).map(|r| (r.0.uid, r.0.gid, r.0.gids, r.1.len()));
         assert_eq!(rt; read, wanted);
     }
+}
+
+/// A denial for the RPC version, one for the credential, and an accepted reply that names the version it
+/// has: the last four words of each stand in RFC 5531's order.
+#[test]
+fn replies_are_records(rt: HostRuntime) -> Result<(), Fail> {
+    let mut out = Vec::new(rt.alloc());
+    write_denied(3, [0, 2, 2], 3, &mut out)?;
+    assert_eq!(rt;
+        out.as_slice(),
+        b"\x80\0\0\x18\0\0\0\x03\0\0\0\x01\0\0\0\x01\0\0\0\0\0\0\0\x02\0\0\0\x02".as_slice()
+    );
+    out.clear();
+    write_denied(5, [1, 3, 0], 2, &mut out)?;
+    assert_eq!(rt;
+        out.as_slice(),
+        b"\x80\0\0\x14\0\0\0\x05\0\0\0\x01\0\0\0\x01\0\0\0\x01\0\0\0\x03".as_slice()
+    );
+    out.clear();
+    write_accepted(4, 2, b"\0\0\0\x03\0\0\0\x03", &mut out)?;
+    assert_eq!(rt;
+        out.as_slice(),
+        b"\x80\0\0\x20\0\0\0\x04\0\0\0\x01\0\0\0\0\0\0\0\0\0\0\0\0\0\0\0\x02\0\0\0\x03\0\0\0\x03".as_slice()
+    );
+    Ok(())
+}
+
+#[test]
+fn a_caller_is_owned(rt: HostRuntime) -> Result<(), Fail> {
+    let who = Who {
+        uid: 7,
+        gid: 8,
+        gids: b"\0\0\0\x09",
+    };
+    let cred = own_cred(rt.alloc(), &who)?;
+    assert_eq!(rt; (cred.uid, cred.gid), (7, 8));
+    assert_eq!(rt; cred.gids.as_slice(), b"\0\0\0\x09".as_slice());
+    Ok(())
 }

@@ -1,0 +1,56 @@
+-- How the records of replies are spelled, item by item.
+use Rattle.std.proofs.Common.{rules, ◌≡◌, ℕ, ◌+◌, List, [], ◌∷◌, ◌++◌, length, take, refl, ap, ◌∙◌, append_assoc, length-append}
+use Rattle.std.specs.Prelude.{◌^◌, slice_index}
+use Rattle.xdr_grammar.specs.Items.{word, opaque, fixed}
+use Rattle.xdr_grammar.specs.Arrays.{items}
+use Rattle.xdr_grammar.specs.Laws.{Laws}
+use Rattle.xdr_grammar.proofs.Rules.{grammar_laws}
+use Rattle.rpc_records.specs.Reading.{marked}
+use Rattle.rpc_msg.specs.Auth.{opaque_auth}
+use Rattle.rpc_msg.specs.Replies.{reply_head, accepted_reply, accepted, head_bytes, accepted_record, denied_record}
+use Rattle.rpc_msg.proofs.Auth.{opaque_auth-laws}
+
+reply_head-laws : Laws reply_head
+unfolding reply_head
+reply_head-laws = search grammar_laws
+
+pub accepted_reply-laws : Laws accepted_reply
+unfolding accepted_reply
+accepted_reply-laws = search (grammar_laws, reply_head-laws, opaque_auth-laws)
+
+-- the parts of an accepted reply's head
+accepted_parts : (xid stat : ℕ) → accepted_reply.spelling (accepted xid stat) ≡ reply_head.spelling (record { xid = xid; kind = 1; stat = 0 }) ++ (word.spelling 0 ++ (word.spelling 0 ++ word.spelling stat))
+unfolding accepted_reply reply_head opaque_auth opaque fixed word
+accepted_parts xid stat = refl
+
+accepted_long : (xid stat : ℕ) → length (accepted_reply.spelling (accepted xid stat)) ≡ 24
+unfolding accepted_reply reply_head opaque_auth opaque fixed word
+accepted_long xid stat = refl
+
+pub accepted-spelled : (xid stat : ℕ) (results : List ℕ)
+    → accepted_record xid stat results ≡ head_bytes (24 + length results) xid 0 ++ (word.spelling 0 ++ (word.spelling 0 ++ (word.spelling stat ++ results)))
+unfolding accepted_record marked head_bytes
+accepted-spelled xid stat results =
+    let head = accepted_reply.spelling (accepted xid stat) in
+    let long : length (head ++ results) ≡ 24 + length results = length-append head results ∙ ap (λ n. n + length results) (accepted_long xid stat) in
+    ap (λ n. word.spelling (2 ^ 31 + n) ++ (head ++ results)) long
+    ∙ ap (λ (front : List ℕ). word.spelling (2 ^ 31 + (24 + length results)) ++ (front ++ results)) (accepted_parts xid stat)
+    ∙ search (rules, append_assoc)
+
+pub denied_two-spelled : (xid : ℕ) (words : List ℕ) → length words ≡ 3
+    → denied_record xid 2 words ≡ head_bytes 20 xid 1 ++ (word.spelling (slice_index words 0) ++ word.spelling (slice_index words 1))
+unfolding denied_record marked reply_head word head_bytes items
+denied_two-spelled xid (a ∷ b ∷ c ∷ []) long = refl
+denied_two-spelled xid [] long = absurd cc
+denied_two-spelled xid (a ∷ []) long = absurd cc
+denied_two-spelled xid (a ∷ b ∷ []) long = absurd cc
+denied_two-spelled xid (a ∷ b ∷ c ∷ d ∷ more) long = absurd cc
+
+pub denied_three-spelled : (xid : ℕ) (words : List ℕ) → length words ≡ 3
+    → denied_record xid 3 words ≡ head_bytes 24 xid 1 ++ (word.spelling (slice_index words 0) ++ (word.spelling (slice_index words 1) ++ word.spelling (slice_index words 2)))
+unfolding denied_record marked reply_head word head_bytes items
+denied_three-spelled xid (a ∷ b ∷ c ∷ []) long = refl
+denied_three-spelled xid [] long = absurd cc
+denied_three-spelled xid (a ∷ []) long = absurd cc
+denied_three-spelled xid (a ∷ b ∷ []) long = absurd cc
+denied_three-spelled xid (a ∷ b ∷ c ∷ d ∷ more) long = absurd cc
