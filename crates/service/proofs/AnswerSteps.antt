@@ -82,19 +82,10 @@ answered-none needs given to_come written clock clock' sink Ends gave ends = rec
 
 -- ---- the record that is kept
 
-unfinished-if : (now : Progress) → refusal_of now ≡ None → kept_by now ≡ [] → IsUnfinished now
-unfinished-if (InHead fragments content bytes) accepted none = tt
-unfinished-if (InFragment fragments content last left) accepted none = tt
-unfinished-if (Holding content) accepted none = absurd cc
-unfinished-if (Refusing fault) accepted none = absurd cc
-
 -- no record is whole
 pub whole-none : {C K : Type 0} (reply : List ℕ → Result (List ℕ) NoReply) (needs : List ℕ → Bool) (given : C → Option (List Moment)) (to_come : C → Option (ℕ → Moment)) (written : K → Option (List ℕ)) (clock : C) (sink : K) (now : Progress) → Answered needs given to_come written clock clock sink sink (GoesOn reply now now [])
 whole-none reply needs given to_come written clock sink now =
     answered-none needs given to_come written clock clock sink (GoesOn reply now now []) (gave_moments-nil given to_come clock) (record { went = went-nil now; replied = replied-nil reply })
-
-pub whole-unfinished : (now : Progress) → refusal_of now ≡ None → kept_by now ≡ [] → IsUnfinished now
-whole-unfinished = unfinished-if
 
 -- it has no reply
 pub whole-no_reply : {C K : Type 0} (reply : List ℕ → Result (List ℕ) NoReply) (needs : List ℕ → Bool) (given : C → Option (List Moment)) (to_come : C → Option (ℕ → Moment)) (written : K → Option (List ℕ)) (clock clock' : C) (sink : K) (now : Progress) (content more : List ℕ) (fault : NoReply) → now ≡ Holding content → reply content ≡ Err fault → GaveMoments given to_come clock clock' [] → Answered needs given to_come written clock clock' sink sink (StopsAs reply (end_without fault) now more)
