@@ -1,8 +1,8 @@
-pub mod Heads
 pub mod PutSteps
+pub mod TranscriptSteps
 pub mod AnswerSteps
 pub mod SessionSteps
-pub mod NoCall
 pub mod ReplySizes
 pub mod OneWord
 pub mod Readings
+pub mod RunSteps

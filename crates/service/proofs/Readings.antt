@@ -1,124 +1,81 @@
--- A text has one reading, which is that of record marking.
-use Rattle.std.proofs.Common.{◌≡◌, ℕ, ◌+◌, ◌%◌, ◌^◌, ◌<◌, ◌≤◌, List, [], ◌∷◌, ◌++◌, length, drop, Option, Some, None, IsSome, IsSomeAnd, refl, sym, ◌∙◌, ap, arith, append_assoc, inl, inr, ⊎_elim}
-use Rattle.std.specs.List.{flat_map, AllByRecursion}
-use Rattle.std.proofs.lemmas.List.{length-drop, append-nil}
-use Rattle.std.proofs.Math.Nat.{add-mod_left, mod-eq_of_lt}
-use Rattle.byteorder.specs.Numbers.{big_number-reads_back}
-use Rattle.std.proofs.lemmas.List.Elements.{All-from_recursion}
-use Rattle.std.proofs.lemmas.Bool.{false≢true, cases_lt}
-use Rattle.std.proofs.lemmas.Bool.Decides.{nat_tests}
-use Rattle.xdr_grammar.specs.Items.{word}
-use Rattle.rpc_records.specs.declared.limits.TheConstants.{MOST_BYTES, MOST_FRAGMENTS}
-use Rattle.rpc_records.specs.Reading.{marked, head_of, first_record, record_at, fragment_length, is_last, Reading}
-use Rattle.rpc_records.specs.Reading.Reading.{Whole, Partial, Refused}
-use Rattle.rpc_records.specs.Marking.{marking, none_whole, with_records}
-use Rattle.rpc_records.specs.Marking as marks
-use Rattle.rpc_records.proofs.RecordLaws.{record_at-short, record_at-fits, fragment_at-short}
-use Rattle.rpc_records.proofs.MarkingLaws.{first_record-marked, marking-marked, marking-partial}
-use Rattle.service.specs.Framing.{built_length, IsBuilt, IsShort, Splits, Stops}
-use Rattle.service.proofs.Heads.{built_head}
+-- A text has one reading.
+use Rattle.std.proofs.Common.{◌≡◌, ℕ, List, [], ◌∷◌, ◌++◌, Result, Ok, Err, refl, sym, ◌∙◌, ap, append_assoc}
+use Rattle.service.specs.declared.no_reply.NoReply.{NoReply}
+use Rattle.service.specs.declared.session.SessionEnd.{SessionEnd}
+use Rattle.service.specs.declared.session.SessionEnd.TheVariants.{Done, ReadFault, WriteFault, CutRecord, TooLong, BadRecord, ManyReads, NotBuilt}
+use Rattle.service.specs.Transcript.{Transcript, ending, begun_by, transcript_of, transcript, replies}
+use Rattle.service.specs.Session.{EndsAs, ConsistsOf, IsByText, IsFront}
 
--- what is built is short
-built_small : (head n : ℕ) → built_length head ≡ Some n → n ≤ 68
-unfolding built_length
-built_small head n h = grind (arith, nat_tests)
+-- what was served is what the transcript has
+pub record IsServed (t : Transcript) (records : List (List ℕ)) (bytes : List ℕ) : Type 0 where
+  pub answered : t.answered ≡ records
+  pub wrote : t.bytes ≡ bytes
 
-built_short : (reply : List ℕ → Option (List ℕ)) (content : List ℕ) → IsBuilt reply content → marks.IsShort content
-built_short reply content h = let small = built_small _ _ h.length_built in omega (arith, small)
+served-all : (t : Transcript) (records : List (List ℕ)) (bytes : List ℕ) (end : SessionEnd) → ConsistsOf t records bytes end → IsServed t records bytes
+served-all t records bytes end all = record { answered = ap (λ (u : Transcript). u.answered) all; wrote = ap (λ (u : Transcript). u.bytes) all }
 
-some_and : (o : Option ℕ) (P : ℕ → Type 0) → IsSomeAnd o P → (n : ℕ) × (o ≡ Some n) × P n
-some_and None P h = absurd h
-some_and (Some n) P h = (n, refl, h)
+pub served : (reply : List ℕ → Result (List ℕ) NoReply) (text : List ℕ) (end : SessionEnd) (records : List (List ℕ)) (bytes : List ℕ) → EndsAs reply end text records bytes → (end ≡ WriteFault → ⊥) → IsServed (transcript reply text) records bytes
+served reply text Done records bytes ends not = served-all (transcript reply text) records bytes Done ends
+served reply text CutRecord records bytes ends not = served-all (transcript reply text) records bytes CutRecord ends
+served reply text TooLong records bytes ends not = served-all (transcript reply text) records bytes TooLong ends
+served reply text BadRecord records bytes ends not = served-all (transcript reply text) records bytes BadRecord ends
+served reply text NotBuilt records bytes ends not = served-all (transcript reply text) records bytes NotBuilt ends
+served reply text ReadFault records bytes ends not = served-all (transcript reply text) records bytes (transcript reply text).end ends.all
+served reply text ManyReads records bytes ends not = served-all (transcript reply text) records bytes (transcript reply text).end ends.all
+served reply text WriteFault records bytes ends not = absurd (not refl)
 
-length_under : (top n : ℕ) → n < top → (top + n) % top ≡ n
-length_under top n h = add-mod_left top n ∙ mod-eq_of_lt h
+end-all : (t : Transcript) (records : List (List ℕ)) (bytes : List ℕ) (end : SessionEnd) → ConsistsOf t records bytes end → t.end ≡ end
+end-all t records bytes end all = ap (λ (u : Transcript). u.end) all
 
-short_content : (tail : List ℕ) (n : ℕ) → 4 ≤ length tail → built_length (head_of tail) ≡ Some n → length tail < 4 + n → first_record tail ≡ Partial
-short_content tail n enough built short =
-    let small = built_small _ _ built in
-    let size : fragment_length (head_of tail) ≡ n = ap fragment_length (built_head _ _ built) ∙ length_under (2 ^ 31) n (omega arith) in
-    let fits : 0 + fragment_length (head_of tail) ≤ MOST_BYTES = rw size (omega arith) in
-    let cut : length (drop 4 tail) < fragment_length (head_of tail) = rw (size, length-drop 4 tail) (omega arith) in
-    record_at-fits 63 [] tail enough fits ∙ fragment_at-short (record_at 63) (is_last (head_of tail)) (fragment_length (head_of tail)) [] (drop 4 tail) cut
+pub by_text : (reply : List ℕ → Result (List ℕ) NoReply) (text : List ℕ) (end : SessionEnd) (records : List (List ℕ)) (bytes : List ℕ) → EndsAs reply end text records bytes → IsByText end → (transcript reply text).end ≡ end
+by_text reply text Done records bytes ends by = end-all (transcript reply text) records bytes Done ends
+by_text reply text CutRecord records bytes ends by = end-all (transcript reply text) records bytes CutRecord ends
+by_text reply text TooLong records bytes ends by = end-all (transcript reply text) records bytes TooLong ends
+by_text reply text BadRecord records bytes ends by = end-all (transcript reply text) records bytes BadRecord ends
+by_text reply text NotBuilt records bytes ends by = end-all (transcript reply text) records bytes NotBuilt ends
+by_text reply text ReadFault records bytes ends by = absurd by
+by_text reply text ManyReads records bytes ends by = absurd by
+by_text reply text WriteFault records bytes ends by = absurd by
 
--- less than a record that is built is no whole record of record marking, and no fault
-pub short_partial : (tail : List ℕ) → IsShort tail → first_record tail ≡ Partial
-short_partial tail short =
-    ⊎_elim (λ (lt : length tail < 4). record_at-short MOST_FRAGMENTS [] tail lt)
-    (λ (ge : 4 ≤ length tail). let found = some_and _ _ (short ge) in short_content tail found.0 ge found.1 found.2)
-    (cases_lt (length tail) 4)
+pub one_records : (reply : List ℕ → Result (List ℕ) NoReply) (text : List ℕ) (end other : SessionEnd) (r s : List (List ℕ)) (b c : List ℕ) → EndsAs reply end text r b → EndsAs reply other text s c → (end ≡ WriteFault → ⊥) → (other ≡ WriteFault → ⊥) → r ≡ s
+one_records reply text end other r s b c first second h k = sym (served reply text end r b first h).answered ∙ (served reply text other s c second k).answered
 
-whole_apart : (content rest : List ℕ) → Whole content rest ≡ Partial → ⊥
-whole_apart content rest e = cc
+pub one_bytes : (reply : List ℕ → Result (List ℕ) NoReply) (text : List ℕ) (end other : SessionEnd) (r s : List (List ℕ)) (b c : List ℕ) → EndsAs reply end text r b → EndsAs reply other text s c → (end ≡ WriteFault → ⊥) → (other ≡ WriteFault → ⊥) → b ≡ c
+one_bytes reply text end other r s b c first second h k = sym (served reply text end r b first h).wrote ∙ (served reply text other s c second k).wrote
 
-head-mark : (x : ℕ) (more : List ℕ) → x < 256 ^ 4 → head_of (word.spelling x ++ more) ≡ x
-unfolding word head_of
-head-mark x more h = big_number-reads_back 4 x more h
+pub one_end : (reply : List ℕ → Result (List ℕ) NoReply) (text : List ℕ) (end other : SessionEnd) (r s : List (List ℕ)) (b c : List ℕ) → EndsAs reply end text r b → EndsAs reply other text s c → IsByText end → IsByText other → end ≡ other
+one_end reply text end other r s b c first second h k = sym (by_text reply text end r b first h) ∙ by_text reply text other s c second k
 
-head-marked : (content more : List ℕ) → length content ≤ 68 → head_of (marked content ++ more) ≡ 2 ^ 31 + length content
-unfolding marked
-head-marked content more small = ap (λ xs. head_of xs) (append_assoc (word.spelling (2 ^ 31 + length content)) content more) ∙ head-mark (2 ^ 31 + length content) (content ++ more) (omega arith)
+-- ---- the replies to the first records are the first replies
 
-some_none : (o : Option (List ℕ)) → IsSome o → o ≡ None → ⊥
-some_none None some none = false≢true some
-some_none (Some x) some none = cc
+first-of : (c d : List ℕ) (rs ss : List (List ℕ)) → c ∷ rs ≡ d ∷ ss → c ≡ d
+first-of c d rs ss e = cc
 
-content_of : Reading → List ℕ
-content_of (Whole content rest) = content
-content_of Partial = []
-content_of (Refused fault) = []
+others-of : (c d : List ℕ) (rs ss : List (List ℕ)) → c ∷ rs ≡ d ∷ ss → rs ≡ ss
+others-of c d rs ss e = cc
 
-rest_of : Reading → List ℕ
-rest_of (Whole content rest) = rest
-rest_of Partial = []
-rest_of (Refused fault) = []
+none-begins : (c : List ℕ) (rs : List (List ℕ)) → [] ≡ c ∷ rs → ⊥
+none-begins c rs e = cc
 
--- both front records are one
-front : (content more c rest : List ℕ) → marks.IsShort content → marks.IsShort c → marked content ++ more ≡ marked c ++ rest → Whole content more ≡ Whole c rest
-front content more c rest short short' e = sym (first_record-marked content more short) ∙ ap first_record e ∙ first_record-marked c rest short'
+replies-front : (reply : List ℕ → Result (List ℕ) NoReply) (end : SessionEnd) (all records others : List (List ℕ)) → (transcript_of reply all (ending end)).answered ≡ records ++ others → IsFront (replies reply records) (transcript_of reply all (ending end)).bytes
+replies-front reply end all [] others e = record { rest = (transcript_of reply all (ending end)).bytes; whole = refl }
+replies-front reply end [] (r ∷ records) others e = absurd (none-begins r (records ++ others) e)
+replies-front reply end (content ∷ all) (r ∷ records) others e =
+    let rest = transcript_of reply all (ending end) in
+    (elim (reply content) as (λ (x : Result (List ℕ) NoReply). reply content ≡ x → (begun_by content x rest).answered ≡ r ∷ (records ++ others) → IsFront (replies reply (r ∷ records)) (begun_by content x rest).bytes) [
+      | Ok out ↦ λ is begins.
+          let same : r ≡ content = sym (first-of content r rest.answered (records ++ others) begins) in
+          let front = replies-front reply end all records others (others-of content r rest.answered (records ++ others) begins) in
+          record {
+            rest = front.rest;
+            whole = ap (λ (xs : List ℕ). out ++ xs) front.whole ∙ (sym (append_assoc out (replies reply records) front.rest)
+                ∙ sym (ap (λ (x : Result (List ℕ) NoReply). (begun_by r x (transcript_of reply records (ending Done))).bytes ++ front.rest) (ap reply same ∙ is)));
+          }
+      | Err fault ↦ λ is begins. absurd (none-begins r (records ++ others) begins)
+    ]) refl e
 
-same_content : (content more c rest : List ℕ) → Whole content more ≡ Whole c rest → content ≡ c
-unfolding content_of
-same_content content more c rest e = ap content_of e
+front-front : (bytes middle all : List ℕ) → IsFront bytes middle → IsFront middle all → IsFront bytes all
+front-front bytes middle all first then = record { rest = first.rest ++ then.rest; whole = then.whole ∙ (ap (λ (xs : List ℕ). xs ++ then.rest) first.whole ∙ append_assoc bytes first.rest then.rest) }
 
-same_rest : (content more c rest : List ℕ) → Whole content more ≡ Whole c rest → more ≡ rest
-unfolding rest_of
-same_rest content more c rest e = ap rest_of e
-
--- a record that is built is at the front of no tail
-no_tail : (reply : List ℕ → Option (List ℕ)) (content more tail : List ℕ) → IsBuilt reply content → Stops reply tail → marked content ++ more ≡ tail → ⊥
-no_tail reply content more tail built (inl short) e = whole_apart content more (sym (first_record-marked content more (built_short reply content built)) ∙ ap first_record e ∙ short_partial tail short)
-no_tail reply content more tail built (inr (inl head)) e =
-    let here : built_length (head_of tail) ≡ Some (length content) = ap (λ xs. built_length (head_of xs)) (sym e) ∙ ap built_length (head-marked content more (built_small _ _ built.length_built)) ∙ built.length_built in
-    let none = head.unbuilt in
-    cc
-no_tail reply content more tail built (inr (inr unbuilt)) e =
-    let small = built_small _ _ unbuilt.length_built in
-    let same = same_content _ _ _ _ (front content more unbuilt.content unbuilt.rest (built_short reply content built) (omega (arith, small)) (e ∙ unbuilt.whole)) in
-    some_none (reply content) built.replied (ap reply same ∙ unbuilt.unbuilt)
-
--- one list of records, and one tail
-pub record SameReading (r s : List (List ℕ)) (t u : List ℕ) : Type 0 where
-  pub records : r ≡ s
-  pub tail : t ≡ u
-
-reading : (reply : List ℕ → Option (List ℕ)) (r s : List (List ℕ)) (t u : List ℕ) → AllByRecursion (IsBuilt reply) r → AllByRecursion (IsBuilt reply) s → Stops reply t → Stops reply u → flat_map marked r ++ t ≡ flat_map marked s ++ u → SameReading r s t u
-reading reply [] [] t u built_r built_s stops_t stops_u e = record { records = refl; tail = e }
-reading reply [] (d ∷ s) t u built_r built_s stops_t stops_u e = absurd (no_tail reply d (flat_map marked s ++ u) t built_s.0 stops_t (sym (append_assoc (marked d) (flat_map marked s) u) ∙ sym e))
-reading reply (c ∷ r) [] t u built_r built_s stops_t stops_u e = absurd (no_tail reply c (flat_map marked r ++ t) u built_r.0 stops_u (sym (append_assoc (marked c) (flat_map marked r) t) ∙ e))
-reading reply (c ∷ r) (d ∷ s) t u built_r built_s stops_t stops_u e =
-    let both = front c (flat_map marked r ++ t) d (flat_map marked s ++ u) (built_short reply c built_r.0) (built_short reply d built_s.0) (sym (append_assoc (marked c) (flat_map marked r) t) ∙ e ∙ append_assoc (marked d) (flat_map marked s) u) in
-    let rest = reading reply r s t u built_r.1 built_s.1 stops_t stops_u (same_rest _ _ _ _ both) in
-    record { records = ap (λ x. x ∷ r) (same_content _ _ _ _ both) ∙ ap (λ xs. d ∷ xs) rest.records; tail = rest.tail }
-
-pub one_reading : (reply : List ℕ → Option (List ℕ)) (text : List ℕ) (r s : List (List ℕ)) (t u : List ℕ) → Splits reply text r t → Splits reply text s u → Stops reply t → Stops reply u → SameReading r s t u
-one_reading reply text r s t u first second stops_t stops_u = reading reply r s t u first.built second.built stops_t stops_u (sym first.whole ∙ second.whole)
-
--- the records are those of record marking
-all_short : (reply : List ℕ → Option (List ℕ)) (records : List (List ℕ)) → AllByRecursion (IsBuilt reply) records → AllByRecursion marks.IsShort records
-all_short reply [] built = tt
-all_short reply (c ∷ records) built = (built_short reply c built.0, all_short reply records built.1)
-
-pub records_are_marked : (reply : List ℕ → Option (List ℕ)) (text : List ℕ) (records : List (List ℕ)) (tail : List ℕ) → Splits reply text records tail → IsShort tail → marking text ≡ record { records = records; rest = tail; refusal = None }
-records_are_marked reply text records tail splits short =
-    ap marking splits.whole ∙ marking-marked records tail (All-from_recursion marks.IsShort records (all_short reply records splits.built)) ∙ ap (with_records records) (marking-partial tail (short_partial tail short)) ∙ ap (λ rs. record { records = rs; rest = tail; refusal = None }) (append-nil records)
+pub broken_front : (reply : List ℕ → Result (List ℕ) NoReply) (text : List ℕ) (records : List (List ℕ)) (bytes : List ℕ) → EndsAs reply WriteFault text records bytes → IsFront bytes (transcript reply text).bytes
+broken_front reply text records bytes ends = front-front bytes (replies reply records) (transcript reply text).bytes ends.front (replies-front reply _ _ records ends.others ends.first)

@@ -1,6 +1,7 @@
-pub mod Framing
+pub mod Transcript
 pub mod Session
 pub mod SessionRuns
+pub mod Steps
 pub mod Attributes
 pub mod Built
 pub mod Replies

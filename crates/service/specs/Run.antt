@@ -4,12 +4,13 @@ use Rattle.std.specs.String.{string_bytes}
 use Rattle.std.specs.declared.alloc.Global.{Global}
 use Rattle.nfs3_types.specs.declared.moment.Moment.{Moment}
 use Rattle.outside.specs.Count.{Rose}
-use Rattle.outside.specs.Told.{Gains}
+use Rattle.outside.specs.Told.{Gains, GaveBytes}
 use Rattle.outside.specs.Clock.{GaveMoments}
 use Rattle.service.specs.declared.session.SessionEnd.{SessionEnd}
-use Rattle.service.specs.declared.session.SessionEnd.TheVariants.{Done, ReadFault, WriteFault, CutRecord, ManyReads, NotBuilt}
+use Rattle.service.specs.declared.session.SessionEnd.TheVariants.{Done, ReadFault, WriteFault, CutRecord, TooLong, BadRecord, ManyReads, NotBuilt}
 use Rattle.service.specs.declared.command.RunEnd.{RunEnd}
 use Rattle.service.specs.declared.command.RunEnd.TheVariants.{Usage, NoMemory, Session}
+use Rattle.service.specs.Transcript.{transcript}
 use Rattle.service.specs.Session.{IsFront}
 use Rattle.service.specs.SessionRuns.{SessionRuns}
 use Rattle.service.specs.Replies.{reply_at, needs_moment}
@@ -24,6 +25,8 @@ status_of Usage = 1
 status_of (Session ReadFault) = 2
 status_of (Session WriteFault) = 3
 status_of (Session CutRecord) = 4
+status_of (Session TooLong) = 5
+status_of (Session BadRecord) = 6
 status_of NoMemory = 7
 status_of (Session ManyReads) = 8
 status_of (Session NotBuilt) = 11
@@ -38,6 +41,8 @@ line_of Usage = line (codes "fss: usage: fss feed [STORES REPLICAS] | fss work N
 line_of (Session ReadFault) = line (codes "fss: input failed")
 line_of (Session WriteFault) = line (codes "fss: output failed")
 line_of (Session CutRecord) = line (codes "fss: input ended inside a record")
+line_of (Session TooLong) = line (codes "fss: record too long")
+line_of (Session BadRecord) = line (codes "fss: bad record")
 line_of NoMemory = line (codes "fss: no memory")
 line_of (Session ManyReads) = line (codes "fss: too many reads")
 line_of (Session NotBuilt) = line (codes "fss: not built")
@@ -89,3 +94,14 @@ pub record Runs {S C K E : Type 0} (taken left : S → Option (List ℕ)) (read_
   pub status_is : status ≡ status_of end
   pub outcome : Outcome taken left read_faults given to_come written write_faults words old_source new_source old_clock new_clock old_sink new_sink end
   pub tells : Tells told tell_faults old_errors new_errors (line_of end)
+
+-- a status for something else than the bytes that were read: the words, a fault, memory or the number of takes
+abbrev pub IsApart : ℕ → Type 0
+IsApart status = (status ≡ 1) ⊎ (status ≡ 2) ⊎ (status ≡ 3) ⊎ (status ≡ 7) ⊎ (status ≡ 8)
+
+-- The status is that of the transcript of the text that the source gave. The first moment does not matter
+-- to it.
+pub record EndsByText {S : Type 0} (taken left : S → Option (List ℕ)) (old_source new_source : S) (status : ℕ) : Type 0 where
+  pub text : List ℕ
+  pub gave : GaveBytes taken left old_source new_source text
+  pub status_is : (first : Moment) → status ≡ status_of (Session (transcript (reply_at first) text).end)

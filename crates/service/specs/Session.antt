@@ -1,19 +1,14 @@
--- What a session does: which records it answers, and what it reads, takes of the clock and writes for them.
-use Rattle.std.specs.Prelude.{◌≡◌, ℕ, ◌^◌, ◌<◌, ◌≤◌, Bool, List, [], ◌++◌, length, count_by, if◌then◌else◌, Option, unwrap_or, Result, IsErrOf, ◌⊎◌}
-use Rattle.std.specs.List.{flat_map}
+-- What a session does: which records it answers, what it takes of the clock and writes for them, and how it
+-- ends.
+use Rattle.std.specs.Prelude.{◌≡◌, ℕ, ◌^◌, ◌<◌, ◌≤◌, Bool, List, ◌++◌, length, count_by, if◌then◌else◌, Option, Result, ◌⊎◌}
 use Rattle.nfs3_types.specs.declared.moment.Moment.{Moment}
 use Rattle.outside.specs.Count.{Rose}
 use Rattle.outside.specs.Told.{Gains}
 use Rattle.outside.specs.Clock.{GaveMoments}
+use Rattle.service.specs.declared.no_reply.NoReply.{NoReply}
 use Rattle.service.specs.declared.session.SessionEnd.{SessionEnd}
-use Rattle.service.specs.declared.session.SessionEnd.TheVariants.{Done, ReadFault, WriteFault, CutRecord, ManyReads, NotBuilt}
-use Rattle.service.specs.declared.answering.Stop.{Stop}
-use Rattle.service.specs.declared.answering.Stop.TheVariants as stops
-use Rattle.service.specs.Framing.{Splits, IsShort, IsUnbuilt}
-
--- the transcript: the replies to records, one after another
-abbrev pub transcript : (List ℕ → Option (List ℕ)) → List (List ℕ) → List ℕ
-transcript reply records = flat_map (λ content. unwrap_or (reply content) []) records
+use Rattle.service.specs.declared.session.SessionEnd.TheVariants.{Done, ReadFault, WriteFault, CutRecord, ManyReads}
+use Rattle.service.specs.Transcript.{Transcript, transcript, replies}
 
 -- the bytes are the first of those
 pub record IsFront (bytes all : List ℕ) : Type 0 where
@@ -25,6 +20,13 @@ pub record GainsFront (before now : Option (List ℕ)) (part : List ℕ) : Type 
   pub bytes : List ℕ
   pub front : IsFront bytes part
   pub gained : Gains before now bytes
+
+-- a front of the part was put, and the rest was not yet
+pub record PutSoFar {K : Type 0} (written : K → Option (List ℕ)) (faults : K → ℕ) (old now : K) (part rest : List ℕ) : Type 0 where
+  pub bytes : List ℕ
+  pub whole : part ≡ bytes ++ rest
+  pub gained : Gains (written old) (written now) bytes
+  pub never_falls : faults old ≤ faults now
 
 -- the clock gave one moment where it is to, else none
 pub record GaveIf {C : Type 0} (given : C → Option (List Moment)) (to_come : C → Option (ℕ → Moment)) (old now : C) (needs : Bool) : Type 0 where
@@ -40,55 +42,35 @@ pub record Serves {C K : Type 0} (needs_moment : List ℕ → Bool) (given : C �
   pub gave : GaveMoments given to_come old_clock new_clock moments
   pub gained : Gains (written old_sink) (written new_sink) bytes
 
--- The text was split into records and a tail, and the records were served by these bytes. How it ended
--- is said of these three.
-pub record Answered {C K : Type 0} (reply : List ℕ → Option (List ℕ)) (needs_moment : List ℕ → Bool) (given : C → Option (List Moment)) (to_come : C → Option (ℕ → Moment)) (written : K → Option (List ℕ)) (old_clock new_clock : C) (old_sink new_sink : K) (text : List ℕ) (Ends : List (List ℕ) → List ℕ → List ℕ → Type 0) : Type 0 where
-  pub records : List (List ℕ)
-  pub tail : List ℕ
-  pub bytes : List ℕ
-  pub splits : Splits reply text records tail
-  pub serves : Serves needs_moment given to_come written old_clock new_clock old_sink new_sink records bytes
-  pub ends : Ends records tail bytes
+-- the transcript is these records, their replies and this end
+abbrev pub ConsistsOf : Transcript → List (List ℕ) → List ℕ → SessionEnd → Type 0
+ConsistsOf t records bytes end = t ≡ record { answered = records; bytes = bytes; end = end }
 
--- all replies to the records were written
-abbrev pub WroteAll : (List ℕ → Option (List ℕ)) → List (List ℕ) → List ℕ → Type 0
-WroteAll reply records bytes = bytes ≡ transcript reply records
+-- every whole record was answered, and the transcript ends with the text alone
+pub record AnswersAll (t : Transcript) (records : List (List ℕ)) (bytes : List ℕ) : Type 0 where
+  pub all : ConsistsOf t records bytes t.end
+  pub open_end : (t.end ≡ Done) ⊎ (t.end ≡ CutRecord)
 
--- all records were answered, and less than a record follows them, which is this
-pub record GoesOn (reply : List ℕ → Option (List ℕ)) (pending : List ℕ) (records : List (List ℕ)) (tail bytes : List ℕ) : Type 0 where
-  pub rest : tail ≡ pending
-  pub short : IsShort tail
-  pub wrote : WroteAll reply records bytes
+-- the first records of the transcript were served, and a front of their replies was written
+pub record BreaksOff (reply : List ℕ → Result (List ℕ) NoReply) (t : Transcript) (records : List (List ℕ)) (bytes : List ℕ) : Type 0 where
+  pub others : List (List ℕ)
+  pub first : t.answered ≡ records ++ others
+  pub front : IsFront bytes (replies reply records)
 
--- a record that is not built follows the ones that were answered
-pub record MeetsUnbuilt (reply : List ℕ → Option (List ℕ)) (records : List (List ℕ)) (tail bytes : List ℕ) : Type 0 where
-  pub unbuilt : IsUnbuilt reply tail
-  pub wrote : WroteAll reply records bytes
+-- How a session ended, by the text that it took, the records that it served and the bytes that it wrote. An
+-- end that is no fault, and not for the number of takes, is the transcript's.
+abbrev pub EndsAs : (List ℕ → Result (List ℕ) NoReply) → SessionEnd → List ℕ → List (List ℕ) → List ℕ → Type 0
+EndsAs reply ReadFault text records bytes = AnswersAll (transcript reply text) records bytes
+EndsAs reply ManyReads text records bytes = AnswersAll (transcript reply text) records bytes
+EndsAs reply WriteFault text records bytes = BreaksOff reply (transcript reply text) records bytes
+EndsAs reply end text records bytes = ConsistsOf (transcript reply text) records bytes end
 
--- why the answering stopped
-abbrev pub StopsAs : (List ℕ → Option (List ℕ)) → Stop → List (List ℕ) → List ℕ → List ℕ → Type 0
-StopsAs reply stops.NotBuilt records tail bytes = MeetsUnbuilt reply records tail bytes
-StopsAs reply stops.WriteFault records tail bytes = IsFront bytes (transcript reply records)
-
--- a sink's count of faults did not fall, and rose where writing stopped the answering
-pub record StopHasCause (before now : ℕ) (result : Result (Unit {0}) Stop) : Type 0 where
-  pub never_falls : before ≤ now
-  pub write_fault : IsErrOf result stops.WriteFault → Rose before now
-
--- the input ended in a record: some bytes of it came, and not all
-pub record IsCut (reply : List ℕ → Option (List ℕ)) (records : List (List ℕ)) (tail bytes : List ℕ) : Type 0 where
-  pub some : 0 < length tail
-  pub short : IsShort tail
-  pub wrote : WroteAll reply records bytes
-
--- how a session ended, by what follows the records that it answered, and what it wrote
-abbrev pub EndsAs : (List ℕ → Option (List ℕ)) → SessionEnd → List (List ℕ) → List ℕ → List ℕ → Type 0
-EndsAs reply Done records tail bytes = GoesOn reply [] records tail bytes
-EndsAs reply CutRecord records tail bytes = IsCut reply records tail bytes
-EndsAs reply ReadFault records tail bytes = GoesOn reply tail records tail bytes
-EndsAs reply ManyReads records tail bytes = GoesOn reply tail records tail bytes
-EndsAs reply NotBuilt records tail bytes = MeetsUnbuilt reply records tail bytes
-EndsAs reply WriteFault records tail bytes = IsFront bytes (transcript reply records)
+-- the ends that a text alone may bring
+abbrev pub IsByText : SessionEnd → Type 0
+IsByText ReadFault = ⊥
+IsByText ManyReads = ⊥
+IsByText WriteFault = ⊥
+IsByText end = Unit {0}
 
 -- The input was read to its end where the session ended so; it was not read 2 ^ 48 times where it did
 -- not end for that; and each fault has its cause.
@@ -102,10 +84,3 @@ pub record EndsBy (end : SessionEnd) (at_end : Type 0) (takes old_read_faults ne
   pub write_faults_never_fall : old_write_faults ≤ new_write_faults
   pub read_fault : end ≡ ReadFault → Rose old_read_faults new_read_faults
   pub write_fault : end ≡ WriteFault → Rose old_write_faults new_write_faults
-
--- a front of the part was put, and the rest was not yet
-pub record PutSoFar {K : Type 0} (written : K → Option (List ℕ)) (faults : K → ℕ) (old now : K) (part rest : List ℕ) : Type 0 where
-  pub bytes : List ℕ
-  pub whole : part ≡ bytes ++ rest
-  pub gained : Gains (written old) (written now) bytes
-  pub never_falls : faults old ≤ faults now

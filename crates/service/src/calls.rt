@@ -1,13 +1,15 @@
 //! Reading the calls that are built.
 
-ghost use Rattle.std.specs.Prelude.{◌≡◌, ◌≢◌, Ok};
+ghost use Rattle.std.specs.Prelude.{◌≡◌, Ok, true, false, IfOk, IfErr};
 ghost use Rattle.xdr_grammar.specs.Reading.{Gives, GivesWhole};
 ghost use Rattle.xdr_grammar.specs.Whole.{whole};
 ghost use Rattle.rpc_msg.specs.Message.{message_head, view};
 ghost use Rattle.service.specs.Built.{this_word, this_hyper, no_auth, root_handle, calls, null_call, getattr_root_call};
-ghost use Rattle.service.specs.Replies.{call_of};
+ghost use Rattle.service.specs.declared.no_reply.NoReply.TheVariants.{BadRecord};
+ghost use Rattle.service.specs.Replies.{call_of, is_bad};
 
-use rpc_msg::{CallHead, read_call};
+use crate::no_reply::NoReply;
+use rpc_msg::{CallHead, HeadFault, read_call};
 use xdr::Reader;
 use xdr_grammar::XdrFault;
 
@@ -115,19 +117,34 @@ pub enum BuiltCall {
     GetattrRoot(u32),
 }
 
+/// The head of a call, which a record begins with unless it is bad.
+fn read_head(content: &[u8]) -> Result<CallHead<'_>, NoReply>
+    ensures read { IfOk result (λ head. message_head.read content.now ≡ Ok (view head, head.tail.now)) }
+    ensures good { IfOk result (λ head. is_bad content.now ≡ false) }
+    ensures bad { IfErr result (λ fault. is_bad content.now ≡ true) }
+    ensures cause { IfErr result (λ fault. fault ≡ BadRecord) }
+{
+    match read_call(content) {
+        Ok(head) => Ok(head),
+        Err(HeadFault::Short) => Err(NoReply::BadRecord),
+        Err(HeadFault::NotCall) => Err(NoReply::BadRecord),
+    }
+}
+
 /// The call that a record is, where it is built.
-pub fn built_call(content: &[u8]) -> Option<BuiltCall>
+pub fn built_call(content: &[u8]) -> Result<BuiltCall, NoReply>
     ensures { result ≡ call_of content.now }
 {
-    let Ok(head) = read_call(content) else {
-        return None;
+    let head = match read_head(content) {
+        Ok(head) => head,
+        Err(fault) => return Err(fault),
     };
     match null_call(content, &head) {
-        Ok(xid) => return Some(BuiltCall::Null(xid)),
+        Ok(xid) => return Ok(BuiltCall::Null(xid)),
         Err(_) => {}
     }
     match getattr_root_call(content, &head) {
-        Ok(xid) => Some(BuiltCall::GetattrRoot(xid)),
-        Err(_) => None,
+        Ok(xid) => Ok(BuiltCall::GetattrRoot(xid)),
+        Err(_) => Err(NoReply::NotBuilt),
     }
 }

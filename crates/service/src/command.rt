@@ -1,8 +1,8 @@
 //! The top call.
 
-ghost use Rattle.std.specs.Prelude.{◌≡◌, ◌↔◌, IfOk, OnErr};
+ghost use Rattle.std.specs.Prelude.{◌≡◌, ◌↔◌, ◌⊎◌, IfOk, OnErr};
 ghost use Rattle.outside.specs.Count.{Rose};
-ghost use Rattle.service.specs.Run.{IsFeed, Feeds, IsUntouched, Outcome, Runs, Tells, line_of, status_of};
+ghost use Rattle.service.specs.Run.{EndsByText, IsApart, IsFeed, Feeds, IsUntouched, Outcome, Runs, Tells, line_of, status_of};
 
 use crate::answering::LONGEST_REPLY;
 use crate::first_tree::FirstTree;
@@ -10,6 +10,7 @@ use crate::put_all::put_all;
 use crate::session::{ROOM, SessionEnd, session};
 use crate::words::is_feed;
 use outside::{Clock, NoMemory, Sink, Source, Weather};
+use rpc_records::Records;
 use std::alloc::Global;
 
 /// How a run ended.
@@ -33,6 +34,8 @@ fn status(end: RunEnd) -> u8
         RunEnd::Session(SessionEnd::ReadFault) => 2,
         RunEnd::Session(SessionEnd::WriteFault) => 3,
         RunEnd::Session(SessionEnd::CutRecord) => 4,
+        RunEnd::Session(SessionEnd::TooLong) => 5,
+        RunEnd::Session(SessionEnd::BadRecord) => 6,
         RunEnd::NoMemory => 7,
         RunEnd::Session(SessionEnd::ManyReads) => 8,
         RunEnd::Session(SessionEnd::NotBuilt) => 11,
@@ -51,6 +54,8 @@ fn line(end: RunEnd) -> &'static [u8]
         RunEnd::Session(SessionEnd::ReadFault) => b"fss: input failed\n",
         RunEnd::Session(SessionEnd::WriteFault) => b"fss: output failed\n",
         RunEnd::Session(SessionEnd::CutRecord) => b"fss: input ended inside a record\n",
+        RunEnd::Session(SessionEnd::TooLong) => b"fss: record too long\n",
+        RunEnd::Session(SessionEnd::BadRecord) => b"fss: bad record\n",
         RunEnd::NoMemory => b"fss: no memory\n",
         RunEnd::Session(SessionEnd::ManyReads) => b"fss: too many reads\n",
         RunEnd::Session(SessionEnd::NotBuilt) => b"fss: not built\n",
@@ -78,8 +83,17 @@ fn feed<S: Source, C: Clock, K: Sink>(
 {
     let mut room = vec![in alloc; 0u8; ROOM]?;
     let mut reply = Vec::with_capacity(alloc, LONGEST_REPLY)?;
+    let mut records = Records::new(alloc)?;
     let tree = FirstTree { first: clock.now() };
-    Ok(session(&tree, &mut room, &mut reply, input, clock, output))
+    Ok(session(
+        &tree,
+        &mut room,
+        &mut records,
+        &mut reply,
+        input,
+        clock,
+        output,
+    ))
 }
 
 /// Runs the command of the words.
@@ -116,6 +130,10 @@ pub fn run<S: Source, K: Sink, E: Sink, C: Clock, W: Weather>(
 ) -> u8
     ensures runs { Runs S.taken S.left S.faults C.given C.to_come K.written K.faults E.written E.faults words.now
         input.old input.new clock.old clock.new output.old output.new errors.old errors.new result }
+    ensures by_text { IsApart result ⊎ EndsByText S.taken S.left input.old input.new result }
+    // Where neither count rose, only want of memory and 2^48 takes are such statuses.
+    ensures complete { IsFeed words.now → ¬ Rose (S.faults input.old) (S.faults input.new) → ¬ Rose (K.faults output.old) (K.faults output.new)
+        → (result ≡ 7) ⊎ (result ≡ 8) ⊎ EndsByText S.taken S.left input.old input.new result }
     ensures usage { (result ≡ 1) ↔ ¬ IsFeed words.now }
     ensures read_fault { result ≡ 2 → Rose (S.faults input.old) (S.faults input.new) }
     ensures write_fault { result ≡ 3 → Rose (K.faults output.old) (K.faults output.new) }

@@ -1,13 +1,13 @@
 //! The tree as it begins, of which only the root is there.
 
-ghost use Rattle.std.specs.Prelude.{◌≡◌, ◌≤◌, [], OnOk, OnErr, Some, None, vec_capacity};
+ghost use Rattle.std.specs.Prelude.{◌≡◌, ◌≤◌, [], OnOk, OnErr, IfErr, Ok, Err, vec_capacity};
 ghost use Rattle.outside.specs.Clock.{GaveMoments};
 ghost use Rattle.service.specs.Session.{GaveIf};
 ghost use Rattle.service.specs.Replies.{reply_at, needs_moment, takes_moment};
 
 use crate::answering::{Answers, LONGEST_REPLY};
 use crate::calls::{BuiltCall, built_call};
-use crate::framing::NotBuilt;
+use crate::no_reply::NoReply;
 use crate::replies::reply_with;
 use outside::{Clock, Moment};
 
@@ -20,7 +20,7 @@ pub struct FirstTree {
 
 /// Reads the clock where the call takes a moment.
 fn take_moment<C: Clock>(call: BuiltCall, clock: &mut C)
-    ensures { GaveIf C.given C.to_come clock.old clock.new (takes_moment (Some call)) }
+    ensures { GaveIf C.given C.to_come clock.old clock.new (takes_moment (Ok call)) }
 {
     match call {
         BuiltCall::Null(_) => {}
@@ -40,9 +40,10 @@ impl Answers for FirstTree {
         content: &[u8],
         clock: &mut C,
         out: &mut Vec<u8>,
-    ) -> Result<(), NotBuilt> {
-        let Some(call) = built_call(content) else {
-            return Err(NotBuilt);
+    ) -> Result<(), NoReply> {
+        let call = match built_call(content) {
+            Ok(call) => call,
+            Err(fault) => return Err(fault),
         };
         take_moment(call, clock);
         reply_with(out, call, self.first);

@@ -1,21 +1,22 @@
-//! The laws of how a text is read. Their functions do nothing: what is proved is that the clause holds.
+//! The laws of what a session answers. Their functions do nothing: what is proved is that the clause holds.
 
-ghost use Rattle.std.specs.Prelude.{◌≡◌, ℕ, List, Option, None};
-ghost use Rattle.rpc_records.specs.Marking.{marking};
-ghost use Rattle.service.specs.Framing.{Splits, IsShort, Stops};
+ghost use Rattle.std.specs.Prelude.{◌≡◌, ◌≢◌, ℕ, List, Result};
+ghost use Rattle.service.specs.declared.no_reply.NoReply.{NoReply};
+ghost use Rattle.service.specs.declared.session.SessionEnd.{SessionEnd};
+ghost use Rattle.service.specs.declared.session.SessionEnd.TheVariants.{WriteFault};
+ghost use Rattle.service.specs.Transcript.{transcript};
+ghost use Rattle.service.specs.Session.{EndsAs, IsByText, IsFront};
 
-/// A text has one reading: one list of records that are built, and one tail which is no record that
-/// is built. So what a run wrote is determined by what it read.
+/// What was read determines what was answered: two sessions on one text, both of which could write,
+/// served the same records by the same bytes; where the text alone ended both, they ended alike; and
+/// one that could not write wrote a front of the same bytes.
 pub fn one_reading()
-    ensures records { (reply : List ℕ → Option (List ℕ)) (text : List ℕ) (r s : List (List ℕ)) (t u : List ℕ)
-        → Splits reply text r t → Splits reply text s u → Stops reply t → Stops reply u → r ≡ s }
-    ensures tail { (reply : List ℕ → Option (List ℕ)) (text : List ℕ) (r s : List (List ℕ)) (t u : List ℕ)
-        → Splits reply text r t → Splits reply text s u → Stops reply t → Stops reply u → t ≡ u }
-{}
-
-/// The records are those of record marking (RFC 5531, section 11), where less than a record follows.
-pub fn records_are_marked()
-    ensures { (reply : List ℕ → Option (List ℕ)) (text : List ℕ) (records : List (List ℕ)) (tail : List ℕ)
-        → Splits reply text records tail → IsShort tail
-        → marking text ≡ record { records = records; rest = tail; refusal = None } }
+    ensures records { (reply : List ℕ → Result (List ℕ) NoReply) (text : List ℕ) (end other : SessionEnd) (r s : List (List ℕ)) (b c : List ℕ)
+        → EndsAs reply end text r b → EndsAs reply other text s c → end ≢ WriteFault → other ≢ WriteFault → r ≡ s }
+    ensures bytes { (reply : List ℕ → Result (List ℕ) NoReply) (text : List ℕ) (end other : SessionEnd) (r s : List (List ℕ)) (b c : List ℕ)
+        → EndsAs reply end text r b → EndsAs reply other text s c → end ≢ WriteFault → other ≢ WriteFault → b ≡ c }
+    ensures end { (reply : List ℕ → Result (List ℕ) NoReply) (text : List ℕ) (end other : SessionEnd) (r s : List (List ℕ)) (b c : List ℕ)
+        → EndsAs reply end text r b → EndsAs reply other text s c → IsByText end → IsByText other → end ≡ other }
+    ensures front { (reply : List ℕ → Result (List ℕ) NoReply) (text : List ℕ) (r : List (List ℕ)) (b : List ℕ)
+        → EndsAs reply WriteFault text r b → IsFront b (transcript reply text).bytes }
 {}

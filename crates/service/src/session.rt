@@ -1,11 +1,14 @@
 //! A session: all records of a stream, one after another.
 
-ghost use Rattle.std.specs.Prelude.{◌≤◌, ◌<◌, length, vec_capacity};
+ghost use Rattle.std.specs.Prelude.{◌≡◌, ◌≤◌, ◌<◌, length, vec_capacity};
+ghost use Rattle.rpc_records.specs.Progress.{fresh};
 ghost use Rattle.service.specs.SessionRuns.{SessionRuns};
+ghost use Rattle.service.specs.Steps.{end_of};
 
 use crate::answering::{Answers, LONGEST_REPLY, Stop, answer_piece};
-use crate::framing::Fragment;
+use crate::no_reply::NoReply;
 use outside::{Clock, Sink, Source};
+use rpc_records::Records;
 
 /// The most bytes of one take.
 pub const ROOM: usize = 4096;
@@ -24,10 +27,26 @@ pub enum SessionEnd {
     WriteFault,
     /// The input ended inside a record.
     CutRecord,
+    /// A record has too many bytes or fragments.
+    TooLong,
+    /// A record is no call.
+    BadRecord,
     /// 2^48 takes gave a byte.
     ManyReads,
-    /// A record came that is not built.
+    /// A record is a call that is not built.
     NotBuilt,
+}
+
+/// How a session ended where its answering stopped.
+fn end_of(stop: Stop) -> SessionEnd
+    ensures { result ≡ end_of stop }
+{
+    match stop {
+        Stop::TooLong => SessionEnd::TooLong,
+        Stop::NoReply(NoReply::BadRecord) => SessionEnd::BadRecord,
+        Stop::NoReply(NoReply::NotBuilt) => SessionEnd::NotBuilt,
+        Stop::WriteFault => SessionEnd::WriteFault,
+    }
 }
 
 /// Answers the records of the input in order, each reply written whole before the next record is
@@ -35,6 +54,7 @@ pub enum SessionEnd {
 pub fn session<A: Answers, S: Source, C: Clock, K: Sink>(
     tree: &A,
     room: &mut [u8],
+    records: &mut Records,
     reply: &mut Vec<u8>,
     input: &mut S,
     clock: &mut C,
@@ -42,25 +62,24 @@ pub fn session<A: Answers, S: Source, C: Clock, K: Sink>(
 ) -> SessionEnd
     requires some { 0 < length room.old }
     requires most { length room.old ≤ ROOM }
+    requires records { records.old ≡ fresh }
     requires reply { LONGEST_REPLY ≤ vec_capacity reply.old }
     ensures { SessionRuns (A.reply tree.now) (A.needs_moment tree.now) S.taken S.left S.faults C.given C.to_come K.written K.faults
         input.old input.new clock.old clock.new output.old output.new result }
 {
-    let mut fragment = Fragment::new();
     for _turn in 0..MOST_TAKES {
         let Ok(n) = input.take(room) else {
             return SessionEnd::ReadFault;
         };
         if n == 0 {
-            if fragment.at_edge() {
+            if records.at_edge() {
                 return SessionEnd::Done;
             }
             return SessionEnd::CutRecord;
         }
-        match answer_piece(tree, &room[..n], &mut fragment, reply, clock, output) {
+        match answer_piece(tree, &room[..n], records, reply, clock, output) {
             Ok(()) => {}
-            Err(Stop::NotBuilt) => return SessionEnd::NotBuilt,
-            Err(Stop::WriteFault) => return SessionEnd::WriteFault,
+            Err(stop) => return end_of(stop),
         }
     }
     SessionEnd::ManyReads

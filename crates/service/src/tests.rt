@@ -12,6 +12,18 @@ const NULL_CALL: [u8; 44] = [
     0, 0, 0, 0, 0, 0, 0, 0, 0, 0, 0, 0, 0, 0, 0, 0,
 ];
 
+/// The same with a verifier that says to be one byte long.
+const VERIFIED_CALL: [u8; 44] = [
+    0x80, 0, 0, 0x28, 0, 0, 0, 1, 0, 0, 0, 0, 0, 0, 0, 2, 0, 1, 0x86, 0xa3, 0, 0, 0, 3, 0, 0, 0, 0,
+    0, 0, 0, 0, 0, 0, 0, 0, 0, 0, 0, 0, 0, 0, 0, 1,
+];
+
+/// The same with a second word of 1.
+const NO_CALL: [u8; 44] = [
+    0x80, 0, 0, 0x28, 0, 0, 0, 1, 0, 0, 0, 1, 0, 0, 0, 2, 0, 1, 0x86, 0xa3, 0, 0, 0, 3, 0, 0, 0, 0,
+    0, 0, 0, 0, 0, 0, 0, 0, 0, 0, 0, 0, 0, 0, 0, 0,
+];
+
 const NULL_REPLY: [u8; 28] = [
     0x80, 0, 0, 0x18, 0, 0, 0, 1, 0, 0, 0, 1, 0, 0, 0, 0, 0, 0, 0, 0, 0, 0, 0, 0, 0, 0, 0, 0,
 ];
@@ -31,27 +43,47 @@ const GETATTR_REPLY: [u8; 116] = [
     1, 0, 0, 3, 0xe8, 0, 0, 0, 5, 0, 0, 3, 0xe8, 0, 0, 0, 5, 0, 0, 3, 0xe8, 0, 0, 0, 5,
 ];
 
-fn joined(alloc: Global, parts: &[&[u8]]) -> Result<Vec<u8>, Fail> {
+/// The call of NULL in five fragments, of 10, 0, 20, 0 and 10 bytes.
+const FIVE_FRAGMENTS: [u8; 60] = [
+    0, 0, 0, 10, 0, 0, 0, 1, 0, 0, 0, 0, 0, 0, 0, 0, 0, 0, 0, 0, 0, 20, 0, 2, 0, 1, 0x86, 0xa3, 0,
+    0, 0, 3, 0, 0, 0, 0, 0, 0, 0, 0, 0, 0, 0, 0, 0, 0, 0x80, 0, 0, 10, 0, 0, 0, 0, 0, 0, 0, 0, 0,
+    0,
+];
+
+const CUT: &str = "fss: input ended inside a record\n";
+
+const LONG: &str = "fss: record too long\n";
+
+const BAD: &str = "fss: bad record\n";
+
+const UNBUILT: &str = "fss: not built\n";
+
+const USAGE: &str =
+    "fss: usage: fss feed [STORES REPLICAS] | fss work NUMBER CALLS [STORES REPLICAS LOST ROUGH] | fss serve ADDRESS WORKERS CONNECTIONS STORES REPLICAS\n";
+
+/// The parts, so many zeros, and the last part.
+fn joined(alloc: Global, parts: &[&[u8]], zeros: usize, last: &[u8]) -> Result<Vec<u8>, Fail> {
     let mut all = Vec::new(alloc);
     for part in parts {
         all.extend_from_slice(part)?;
     }
+    for _ in 0..zeros {
+        all.push(0)?;
+    }
+    all.extend_from_slice(last)?;
     Ok(all)
 }
 
-/// Where the outside fails: the plans of the source and of the sink.
-#[derive(Clone, Copy)]
-struct Faults(u8, u8, u8);
-
-/// Runs the words on the input, in takes and puts of at most `cut` bytes. The first and second byte of
-/// the faults are the source's plan, the third one the sink's.
+/// Runs the words on the input, in takes and puts of at most `cut` bytes. A 1 in the plans makes the
+/// source's first or second take fail, or the sink's first put.
 fn check(
     rt: &impl Abort,
     alloc: Global,
     words: &[&str],
     content: Vec<u8>,
     cut: usize,
-    faults: Faults,
+    source: [u8; 2],
+    sink: [u8; 1],
     status: u8,
     written: &[u8],
     line: &str,
@@ -62,9 +94,9 @@ fn check(
     for word in words {
         list.push(String::from_str(alloc, word)?)?;
     }
-    let plan = Text::from_slice(alloc, &[faults.0, faults.1])?;
+    let plan = Text::from_slice(alloc, &source)?;
     let mut input = MemSource::new(Text::from_vec(content), cut, plan);
-    let plan = Text::from_slice(alloc, &[faults.2])?;
+    let plan = Text::from_slice(alloc, &sink)?;
     let mut output = MemSink::new(alloc, cut, plan);
     let mut errors = MemSink::new(alloc, 4096, Text::new(alloc));
     let mut moments = Vec::new(alloc);
@@ -87,117 +119,116 @@ fn check(
     Ok(())
 }
 
-const NO_FAULT: Faults = Faults(0, 0, 0);
-
-const CUT: &str = "fss: input ended inside a record\n";
-
-const UNBUILT: &str = "fss: not built\n";
-
-const USAGE: &str =
-    "fss: usage: fss feed [STORES REPLICAS] | fss work NUMBER CALLS [STORES REPLICAS LOST ROUGH] | fss serve ADDRESS WORKERS CONNECTIONS STORES REPLICAS\n";
+#[test]
+fn records_are_answered_in_any_pieces(rt: HostRuntime) -> Result<(), Fail> {
+    let alloc = rt.alloc();
+    let none: &[u8] = &[];
+    let null = NULL_CALL.as_slice();
+    let root = GETATTR_CALL.as_slice();
+    let parts = FIVE_FRAGMENTS.as_slice();
+    let verified = VERIFIED_CALL.as_slice();
+    let no_call = NO_CALL.as_slice();
+    let done = NULL_REPLY.as_slice();
+    let attributes = GETATTR_REPLY.as_slice();
+    for (input, replies, status, line) in [
+        ([none, none, none], [none, none, none], 0, ""),
+        ([null, none, none], [done, none, none], 0, ""),
+        ([parts, none, none], [done, none, none], 0, ""),
+        // the root keeps its first moment
+        ([root, parts, root], [attributes, done, attributes], 0, ""),
+        // most of a record, most of a head, and a fragment that is not the last one
+        ([null, &NULL_CALL[..41], none], [done, none, none], 4, CUT),
+        (
+            [root, &[0x80, 0, 0], none],
+            [attributes, none, none],
+            4,
+            CUT,
+        ),
+        ([&[0], &NULL_CALL[1..], none], [none, none, none], 4, CUT),
+        // a verifier that is not empty, and a message that is no call
+        ([null, verified, null], [done, none, none], 11, UNBUILT),
+        ([null, no_call, null], [done, none, none], 6, BAD),
+    ] {
+        for cut in [1, 4096] {
+            let input = joined(alloc, &input, 0, none)?;
+            let written = joined(alloc, &replies, 0, none)?;
+            check(
+                &rt,
+                alloc,
+                &["feed"],
+                input,
+                cut,
+                [0, 0],
+                [0],
+                status,
+                &written,
+                line,
+            )?;
+        }
+    }
+    Ok(())
+}
 
 #[test]
-fn built_records_are_answered_and_others_end_the_session(rt: HostRuntime) -> Result<(), Fail> {
+fn records_are_refused_in_any_pieces(rt: HostRuntime) -> Result<(), Fail> {
     let alloc = rt.alloc();
-    let feed: &[&str] = &["feed"];
-    check(
-        &rt,
-        alloc,
-        feed,
-        joined(alloc, &[])?,
-        4096,
-        NO_FAULT,
-        0,
-        &[],
-        "",
-    )?;
-    let null = joined(alloc, &[&NULL_CALL])?;
-    check(&rt, alloc, feed, null, 4096, NO_FAULT, 0, &NULL_REPLY, "")?;
-    let getattr = joined(alloc, &[&GETATTR_CALL])?;
-    check(
-        &rt,
-        alloc,
-        feed,
-        getattr,
-        4096,
-        NO_FAULT,
-        0,
-        &GETATTR_REPLY,
-        "",
-    )?;
-    // one byte at a time, and the root keeps its first moment
-    let three = joined(alloc, &[&GETATTR_CALL, &NULL_CALL, &GETATTR_CALL])?;
-    let replies = joined(alloc, &[&GETATTR_REPLY, &NULL_REPLY, &GETATTR_REPLY])?;
-    check(&rt, alloc, feed, three, 1, NO_FAULT, 0, &replies, "")?;
-    // most of a second record; most of a head
-    let most = joined(alloc, &[&NULL_CALL, &NULL_CALL[..41]])?;
-    check(&rt, alloc, feed, most, 4096, NO_FAULT, 4, &NULL_REPLY, CUT)?;
-    let head = joined(alloc, &[&NULL_CALL[..3]])?;
-    check(&rt, alloc, feed, head, 4096, NO_FAULT, 4, &[], CUT)?;
-    // a head whose top bit is not set; a verifier that is not empty
-    let fragment = joined(alloc, &[&[0], &NULL_CALL[1..]])?;
-    check(&rt, alloc, feed, fragment, 4096, NO_FAULT, 11, &[], UNBUILT)?;
-    let verifier = joined(alloc, &[&NULL_CALL, &NULL_CALL[..43], &[1]])?;
-    check(
-        &rt,
-        alloc,
-        feed,
-        verifier,
-        4096,
-        NO_FAULT,
-        11,
-        &NULL_REPLY,
-        UNBUILT,
-    )
+    // a head, so many bytes of the call, so many zeros, and a last head
+    for (head, bytes, zeros, last, status, line) in [
+        // 65 empty fragments, the last of them marked or not, and 64
+        ([0; 4], 0, 252, [0x80, 0, 0, 0], 5, LONG),
+        ([0; 4], 0, 252, [0; 4], 5, LONG),
+        ([0; 4], 0, 248, [0x80, 0, 0, 0], 6, BAD),
+        // 65,536 bytes and 65,537
+        ([0x80, 1, 0, 0], 40, 65_496, [0x80, 0, 0, 0], 11, UNBUILT),
+        ([0x80, 1, 0, 1], 40, 65_497, [0x80, 0, 0, 0], 5, LONG),
+        // 0 bytes, 23 and 24, before a head that is refused
+        ([0x80, 0, 0, 0], 0, 0, [0x80, 1, 0, 1], 6, BAD),
+        ([0x80, 0, 0, 23], 23, 0, [0x80, 1, 0, 1], 6, BAD),
+        ([0x80, 0, 0, 24], 24, 0, [0x80, 1, 0, 1], 11, UNBUILT),
+        // 23 bytes, before an input that ends inside a record
+        ([0x80, 0, 0, 23], 23, 0, [0x80, 0, 0, 1], 6, BAD),
+    ] {
+        for cut in [1, 4096] {
+            let parts = [head.as_slice(), &NULL_CALL[4..4 + bytes]];
+            let input = joined(alloc, &parts, zeros, &last)?;
+            check(
+                &rt,
+                alloc,
+                &["feed"],
+                input,
+                cut,
+                [0, 0],
+                [0],
+                status,
+                &[],
+                line,
+            )?;
+        }
+    }
+    Ok(())
 }
 
 #[test]
 fn faults_and_words_have_their_statuses(rt: HostRuntime) -> Result<(), Fail> {
     let alloc = rt.alloc();
+    let none: &[u8] = &[];
+    let reply = NULL_REPLY.as_slice();
     let feed: &[&str] = &["feed"];
-    let failed = "fss: input failed\n";
-    let second = Faults(0, 1, 0);
-    let null = joined(alloc, &[&NULL_CALL])?;
-    check(&rt, alloc, feed, null, 4096, second, 2, &NULL_REPLY, failed)?;
-    let null = joined(alloc, &[&NULL_CALL])?;
-    check(
-        &rt,
-        alloc,
-        feed,
-        null,
-        4096,
-        Faults(1, 0, 0),
-        2,
-        &[],
-        failed,
-    )?;
-    let failed = "fss: output failed\n";
-    let null = joined(alloc, &[&NULL_CALL])?;
-    check(
-        &rt,
-        alloc,
-        feed,
-        null,
-        4096,
-        Faults(0, 0, 1),
-        3,
-        &[],
-        failed,
-    )?;
-    let null = joined(alloc, &[&NULL_CALL])?;
-    check(&rt, alloc, &[], null, 4096, NO_FAULT, 1, &[], USAGE)?;
-    let null = joined(alloc, &[&NULL_CALL])?;
-    check(
-        &rt,
-        alloc,
-        &["feed", "4"],
-        null,
-        4096,
-        NO_FAULT,
-        1,
-        &[],
-        USAGE,
-    )?;
-    let null = joined(alloc, &[&NULL_CALL])?;
-    check(&rt, alloc, &["food"], null, 4096, NO_FAULT, 1, &[], USAGE)
+    let no_word: &[&str] = &[];
+    let another: &[&str] = &["food"];
+    let more: &[&str] = &["feed", "4"];
+    for (words, source, sink, status, written, line) in [
+        (feed, [0, 1], [0], 2, reply, "fss: input failed\n"),
+        (feed, [1, 0], [0], 2, none, "fss: input failed\n"),
+        (feed, [0, 0], [1], 3, none, "fss: output failed\n"),
+        (no_word, [0, 0], [0], 1, none, USAGE),
+        (another, [0, 0], [0], 1, none, USAGE),
+        (more, [0, 0], [0], 1, none, USAGE),
+    ] {
+        let null = joined(alloc, &[&NULL_CALL], 0, none)?;
+        check(
+            &rt, alloc, words, null, 4096, source, sink, status, written, line,
+        )?;
+    }
+    Ok(())
 }

@@ -1,8 +1,14 @@
-use Rattle.service.proofs.Readings.{one_reading}
+use Rattle.service.proofs.Readings.{one_records, one_bytes, one_end, broken_front}
 use Rattle.service.proofs.laws.one_reading.Goals as goal
 
 pub returns-clause-records : goal.returns-clause-records
-returns-clause-records c reply text r s t u first second stops_t stops_u = (one_reading reply text r s t u first second stops_t stops_u).records
+returns-clause-records c = one_records
 
-pub returns-clause-tail : goal.returns-clause-tail
-returns-clause-tail c reply text r s t u first second stops_t stops_u = (one_reading reply text r s t u first second stops_t stops_u).tail
+pub returns-clause-bytes : goal.returns-clause-bytes
+returns-clause-bytes c = one_bytes
+
+pub returns-clause-end : goal.returns-clause-end
+returns-clause-end c = one_end
+
+pub returns-clause-front : goal.returns-clause-front
+returns-clause-front c = broken_front
