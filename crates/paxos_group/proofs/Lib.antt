@@ -1,0 +1,4 @@
+pub mod Told
+pub mod Moved
+pub mod Replicas
+pub mod Going

@@ -1,0 +1,11 @@
+//! A group of replicas that settles commands one after another, over any weather.
+#![tactic(auto)]
+
+mod fault;
+mod group;
+mod letter;
+mod net;
+
+pub use fault::GroupFault;
+pub use group::Group;
+pub use paxos_core::Copies;
