@@ -13,3 +13,8 @@ AllDeliver (suc n) (fate ∷ fates) = (fate ≡ Deliver) × AllDeliver n fates
 abbrev pub Delivers : ℕ → Option (List Fate) → Type 0
 Delivers n None = ⊥
 Delivers n (Some fates) = AllDeliver n fates
+
+-- nothing is held, and the next n fates deliver each message
+pub record IsStill (held : ℕ) (to_come : Option (List Fate)) (n : ℕ) : Type 0 where
+  pub empty : held ≡ 0
+  pub fates : Delivers n to_come

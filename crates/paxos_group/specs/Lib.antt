@@ -5,3 +5,4 @@ pub mod Sound
 pub mod Steps
 pub mod Formed
 pub mod Settling
+pub mod Ledger

@@ -1,4 +1,4 @@
-//! Why a command is not settled.
+//! What an append answers.
 
 use thiserror::Error;
 
@@ -11,4 +11,15 @@ pub enum GroupFault {
     /// Memory ran out.
     #[error("no memory")]
     NoMemory = 2,
+}
+
+/// What an append answers.
+#[derive(Clone, Copy, Debug, PartialEq, Eq)]
+pub struct Appended {
+    /// Whether the command that was pending is settled.
+    pub late: bool,
+    /// Whether the group stands as after a doubt: a command is pending.
+    pub doubted: bool,
+    /// Whether the appended command is settled.
+    pub own: Result<(), GroupFault>,
 }

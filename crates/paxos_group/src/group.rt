@@ -4,18 +4,8 @@ ghost use Rattle.std.specs.Prelude.{◌≡◌, ℕ, ◌<◌, ◌≤◌, ◌*◌,
 ghost use Rattle.paxos_group.specs.Formed.{IsFormed};
 ghost use Rattle.paxos_group.specs.Settling.{Settling};
 
-use crate::net::Net;
+use crate::parts::Parts;
 use std::marker::Model;
-
-/// What a group is made of.
-#[derive(Debug, Drop)]
-pub(crate) struct Parts<V> {
-    pub replicas: u32,
-    pub net: Net<V>,
-    pub log: Vec<V>,
-    pub pending: Option<V>,
-    pub round: u64,
-}
 
 /// A group of replicas that settles commands one after another.
 #[derive(Debug, Drop)]
@@ -24,15 +14,15 @@ pub struct Group<V> {
 }
 
 impl<V> Model for Group<V> {
-    ghost use Rattle.std.specs.Prelude.{ℕ};
+    ghost use Rattle.std.specs.Prelude.{ℕ, length};
     ghost use Rattle.slab.specs.Slab.{slab_len};
     ghost use Rattle.paxos_group.specs.Formed.{IsFormed};
-    ghost use Rattle.paxos_group.specs.Settling.{Settling};
+    ghost use Rattle.paxos_group.specs.Settling.{Settling, each_below, accepted_by};
 
     ghost Value = { Settling V };
 
     ghost view = { λ a. record {
-        store = a.parts.net.store; replicas = a.parts.replicas; acceptors = a.parts.net.acceptors.items;
+        store = a.parts.net.store; replicas = a.parts.replicas; accepted = each_below (accepted_by a.parts.net.acceptors.items) (length a.parts.log.items);
         log = a.parts.log.items; pending = a.parts.pending; round = a.parts.round; held = slab_len a.parts.net.held } };
 
     ghost invariant = { λ a. IsFormed a.parts.replicas a.parts.net a.parts.log.items a.parts.pending a.parts.round };

@@ -5,7 +5,8 @@ mod fault;
 mod group;
 mod letter;
 mod net;
+mod parts;
 
-pub use fault::GroupFault;
+pub use fault::{Appended, GroupFault};
 pub use group::Group;
 pub use paxos_core::Copies;
