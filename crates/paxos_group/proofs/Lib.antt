@@ -4,3 +4,5 @@ pub mod Replicas
 pub mod Going
 pub mod Doubt
 pub mod Attempts
+pub mod Stillness
+pub mod Groups
