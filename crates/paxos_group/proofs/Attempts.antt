@@ -1,10 +1,9 @@
 -- How an attempt begins and ends.
-use Rattle.std.proofs.Common.{◌≡◌, ℕ, zero, suc, ◌+◌, ◌*◌, ◌<◌, ◌≤◌, Bool, true, false, not, ◌||◌, List, [], ◌∷◌, ◌++◌, length, ◌⊎◌, inl, inr, arith, subst, refl, sym, ◌∙◌, ap, length-append}
-use Rattle.std.specs.Prelude.{slice_get, Option, Some, None, Result, Ok, Err, OnOk, OnErr, IfErr, ◌==◌, nat_lt, if◌then◌else◌, ⊤}
+use Rattle.std.proofs.Common.{◌≡◌, ℕ, zero, suc, ◌+◌, ◌*◌, ◌<◌, ◌≤◌, Bool, true, false, List, [], ◌∷◌, ◌++◌, length, ◌⊎◌, inl, inr, arith, subst, refl, sym, ◌∙◌, ap, length-append}
+use Rattle.std.specs.Prelude.{slice_get, Option, Some, None, ◌==◌, nat_lt, if◌then◌else◌}
 use Rattle.std.proofs.lemmas.Bool.Decides.{nat_tests}
 use Rattle.std.proofs.lemmas.List.{length-replicate, append-nil}
-use Rattle.slab.specs.Slab.{Slab, get, slab_len}
-use Rattle.outside.specs.declared.weather.Fate.{Fate}
+use Rattle.slab.specs.Slab.{Slab, slab_len}
 use Rattle.outside.specs.declared.weather.MessageKind.{MessageKind}
 use Rattle.outside.specs.declared.weather.MessageKind.TheVariants as kind
 use Rattle.outside.specs.Count.{Rose}
@@ -16,15 +15,15 @@ use Rattle.paxos_core.specs.declared.acceptor.Standing.{Standing}
 use Rattle.paxos_core.specs.declared.proposer.Stage.TheVariants.{Chosen}
 use Rattle.paxos_core.specs.Ballot.{rank}
 use Rattle.paxos_core.specs.Majority.{IsMajority}
-use Rattle.paxos_core.specs.Proposing.{Proposing, begins, stage_of}
+use Rattle.paxos_core.specs.Proposing.{begins, stage_of}
 use Rattle.paxos_core.proofs.MajorityLemmas.{IsMajority-map, none_at_first}
 use Rattle.paxos_group.specs.declared.letter.Letter.{Letter}
 use Rattle.paxos_group.specs.declared.net.Net.{Net}
 use Rattle.paxos_group.specs.declared.net.TheConstants.{MOST_HELD}
-use Rattle.paxos_group.specs.Fates.{Delivers, IsStill}
-use Rattle.paxos_group.specs.Scene.{Scene, scene, kept_at, number_at}
-use Rattle.paxos_group.specs.Sound.{Attempt, ballot_of, IsReached, IsPresent, IsProposed, IsSent, IsNotLost, Keeps, PutOk, StandingOk, ProposerOk, LetterOk, Rests, Stands}
-use Rattle.paxos_group.specs.Steps.{Goes, IsCalm, IsAt, Doubts, StaysCalm, IsGroupSize}
+use Rattle.paxos_group.specs.Fates.{IsStill}
+use Rattle.paxos_group.specs.Scene.{Scene, kept_at, number_at}
+use Rattle.paxos_group.specs.Sound.{Attempt, ballot_of, IsReached, IsPresent, IsProposed, IsSent, IsNotLost, Keeps, PutOk, ProposerOk, Rests, Stands}
+use Rattle.paxos_group.specs.Steps.{Goes, IsAt, Doubts, StaysCalm, IsGroupSize}
 use Rattle.paxos_group.specs.Formed.{IsFormed, list_of}
 use Rattle.paxos_group.proofs.Doubt.{chosen_means}
 
@@ -86,7 +85,7 @@ module _ {V : Type 0} where
     numbered = h.numbered;
     standings = λ r i. let s = h.standings r i in record { promised = reached_along x y (kept r i).promised f s.promised; within = s.within; proposed = proposed_along x y i (kept r i).accepted f s.proposed };
     letters = λ key l there. let ok = h.letters key l there in
-      record { replica = ok.replica; sent = sent_follows x y kept l.replica l.message f ok.sent; not_lost = not_lost_follows x y kept l.replica l.message h.tops f ok.sent };
+        record { replica = ok.replica; sent = sent_follows x y kept l.replica l.message f ok.sent; not_lost = not_lost_follows x y kept l.replica l.message h.tops f ok.sent };
     settled = settled;
   }
 
@@ -141,17 +140,17 @@ module _ {V : Type 0} where
         bound = λ i. let top = f.rests.tops i in let lt = f.last in elim (tops_cases x i) [ inl k ↦ let is = k.1 in omega arith | inr k ↦ let is = k.1 in omega arith ];
       } in
       let settled : (i : ℕ) → i < y.index → IsMajority (length net.acceptors.items) (λ r. Keeps y (kept_at net.acceptors.items) r i) = λ i lt.
-        IsMajority-map (length net.acceptors.items) (λ r k. record {
-          command = k.command;
-          proposed = follows.commands i k.command k.proposed;
-          accepted = k.accepted ∙ ap (λ t. Some (ballot_of t, k.command)) (sym (tops_there x i (λ e. omega arith)));
-        }) (f.rests.settled i lt) in
+      IsMajority-map (length net.acceptors.items) (λ r k. record {
+        command = k.command;
+        proposed = follows.commands i k.command k.proposed;
+        accepted = k.accepted ∙ ap (λ t. Some (ballot_of t, k.command)) (sym (tops_there x i (λ e. omega arith)));
+      }) (f.rests.settled i lt) in
       let rests = rests_follows x y (length net.acceptors.items) (number_at net.acceptors.items) (kept_at net.acceptors.items) net.held follows settled f.rests in
       let rests_s : Rests y s.count s.numbers s.kept s.held =
-        subst (λ c. Rests y c s.numbers s.kept s.held) (sym e1)
-        (subst (λ n. Rests y (length net.acceptors.items) n s.kept s.held) (sym e2)
-        (subst (λ k. Rests y (length net.acceptors.items) (number_at net.acceptors.items) k s.held) (sym e3)
-        (subst (λ h. Rests y (length net.acceptors.items) (number_at net.acceptors.items) (kept_at net.acceptors.items) h) (sym e4) rests))) in
+      subst (λ c. Rests y c s.numbers s.kept s.held) (sym e1)
+      (subst (λ n. Rests y (length net.acceptors.items) n s.kept s.held) (sym e2)
+      (subst (λ k. Rests y (length net.acceptors.items) (number_at net.acceptors.items) k s.held) (sym e3)
+      (subst (λ h. Rests y (length net.acceptors.items) (number_at net.acceptors.items) (kept_at net.acceptors.items) h) (sym e4) rests))) in
       let count : s.count ≡ replicas = e1 ∙ f.count in
       let last : slice_get (log ++ own ∷ []) x.index ≡ Some own = subst (λ i. slice_get (log ++ own ∷ []) i ≡ Some own) (sym f.index) (get_last log own) in
       let first : ProposerOk y s.count s.kept (begins replicas (length log) (ballot_of round) own) = record {
@@ -164,24 +163,26 @@ module _ {V : Type 0} where
         keeps = λ r h. absurd (none_at_first replicas r h);
         put = λ r h. absurd (none_at_first replicas r h);
         ack = λ r h. absurd (none_at_first replicas r h);
-      } in
-      (y, record {
-        stands = record {
-          rests = rests_s;
-          last = refl;
-          here = tops_here x x.index refl;
+      } in (
+        y,
+        record {
+          stands = record {
+            rests = rests_s;
+            last = refl;
+            here = tops_here x x.index refl;
+            silent = λ r k. refl;
+            proposer = subst (λ p. ProposerOk y s.count s.kept p) (sym e5) first;
+          };
+          at = (sym f.index, ap ballot_of (sym f.is_next));
+          index = f.index;
+          is_next = f.is_next;
+          commands = refl;
           silent = λ r k. refl;
-          proposer = subst (λ p. ProposerOk y s.count s.kept p) (sym e5) first;
-        };
-        at = (sym f.index, ap ballot_of (sym f.is_next));
-        index = f.index;
-        is_next = f.is_next;
-        commands = refl;
-        silent = λ r k. refl;
-        size = f.size;
-        count = count;
-        within = subst (λ h. slab_len h ≤ MOST_HELD) (sym e4) f.within;
-      })
+          size = f.size;
+          count = count;
+          within = subst (λ h. slab_len h ≤ MOST_HELD) (sym e4) f.within;
+        },
+      )
 
   pub begin : (s : Scene V) (net : Net V) (replicas : ℕ) (log : List V) (own : V) (round : ℕ) → IsFormed replicas net log None round ⊎ IsFormed replicas net log (Some own) round →
       s.count ≡ length net.acceptors.items → s.numbers ≡ number_at net.acceptors.items → s.kept ≡ kept_at net.acceptors.items → s.held ≡ net.held →
@@ -217,10 +218,10 @@ module _ {V : Type 0} where
         size = size;
         count = sym e1 ∙ count;
         rests =
-          subst (λ c. Rests (ended x index) c (number_at net.acceptors.items) (kept_at net.acceptors.items) net.held) e1
-          (subst (λ n. Rests (ended x index) s.count n (kept_at net.acceptors.items) net.held) e2
-          (subst (λ k. Rests (ended x index) s.count s.numbers k net.held) e3
-          (subst (λ h. Rests (ended x index) s.count s.numbers s.kept h) e4 rests)));
+            subst (λ c. Rests (ended x index) c (number_at net.acceptors.items) (kept_at net.acceptors.items) net.held) e1
+            (subst (λ n. Rests (ended x index) s.count n (kept_at net.acceptors.items) net.held) e2
+            (subst (λ k. Rests (ended x index) s.count s.numbers k net.held) e3
+            (subst (λ h. Rests (ended x index) s.count s.numbers s.kept h) e4 rests)));
         index = at;
         is_next = ap (λ n. n + 1) is_next;
         last = omega arith;
@@ -262,10 +263,10 @@ module _ {V : Type 0} where
     count = (goes.sound x b.stands b.at).proposer.acked ∙ goes.count ∙ b.count;
     most = (chosen_means new.proposing chosen).1;
     each = λ r m.
-      let h = (goes.sound x b.stands b.at).proposer in
-      let put : silent store r kind.Put ≡ false = sym (is r kind.Put) ∙ sym (b.silent r kind.Put) ∙ h.put r m in
-      let ack : silent store r kind.Ack ≡ false = sym (is r kind.Ack) ∙ sym (b.silent r kind.Ack) ∙ h.ack r m in
-      rw (put, ack) refl;
+        let h = (goes.sound x b.stands b.at).proposer in
+        let put : silent store r kind.Put ≡ false = sym (is r kind.Put) ∙ sym (b.silent r kind.Put) ∙ h.put r m in
+        let ack : silent store r kind.Ack ≡ false = sym (is r kind.Ack) ∙ sym (b.silent r kind.Ack) ∙ h.ack r m in
+        rw (put, ack) refl;
   }
 
   pub same_silence : (x : Attempt V) (old new : Scene V) (replicas : ℕ) (log : List V) (own : V) (round : ℕ) → Begun x old replicas log own round → Goes (IsAt (length log) (ballot_of round)) old new →

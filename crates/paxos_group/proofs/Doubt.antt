@@ -1,22 +1,21 @@
 -- When an attempt is in doubt, and how it goes on.
-use Rattle.std.proofs.Common.{◌≡◌, ℕ, zero, suc, ◌+◌, ◌*◌, ◌<◌, ◌≤◌, Bool, true, false, not, List, [], ◌∷◌, length, map, ◌⊎◌, inl, inr, arith, subst, refl, sym, ◌∙◌, ap}
-use Rattle.std.specs.Prelude.{slice_get, Option, Some, None, Result, Ok, Err, OnOk, IfErr, if◌then◌else◌, ⊤}
+use Rattle.std.proofs.Common.{◌≡◌, ℕ, zero, suc, ◌+◌, ◌*◌, ◌<◌, ◌≤◌, Bool, true, false, not, List, [], ◌∷◌, length, map, inl, inr, arith, subst, refl, sym, ◌∙◌, ap}
+use Rattle.std.specs.Prelude.{slice_get, Option, Some, None, Result, Ok, Err, IfErr}
 use Rattle.std.proofs.lemmas.Bool.Decides.{nat_tests}
 use Rattle.outside.specs.Count.{Rose}
 use Rattle.paxos_core.specs.declared.ballot.Ballot.{Ballot}
-use Rattle.paxos_core.specs.declared.message.Message.{Message}
 use Rattle.paxos_core.specs.declared.message.Message.TheVariants.{Ask, Put}
 use Rattle.paxos_core.specs.declared.acceptor.Standing.{Standing}
 use Rattle.paxos_core.specs.declared.proposer.Stage.{Stage}
 use Rattle.paxos_core.specs.declared.proposer.Stage.TheVariants.{Waiting, Promised, Chosen}
 use Rattle.paxos_core.specs.Majority.{is_majority, IsMajority}
 use Rattle.paxos_core.specs.Proposing.{Proposing, is_promised, stage_of, value_of, preferred}
-use Rattle.paxos_core.proofs.MajorityLemmas.{yes_count, yes_true, yes_false, more_than_half}
+use Rattle.paxos_core.proofs.MajorityLemmas.{yes_count, yes_true, yes_false}
 use Rattle.paxos_group.specs.Fates.{Delivers}
 use Rattle.paxos_group.specs.Scene.{Scene}
 use Rattle.paxos_group.specs.Sound.{Attempt, ProposerOk, IsProposed, Stands}
-use Rattle.paxos_group.specs.Steps.{Goes, IsCalm, IsFresh, IsFreshOf, IsMarked, ReachesBelow, IsGroupSize, IsAt, Doubts, StaysCalm}
-use Rattle.paxos_group.proofs.Going.{goes-trans, goes-weaken, rose_after, rose_before}
+use Rattle.paxos_group.specs.Steps.{Goes, IsFresh, IsFreshOf, ReachesBelow, IsGroupSize, IsAt, Doubts, StaysCalm}
+use Rattle.paxos_group.proofs.Going.{goes-weaken, rose_after}
 
 -- the marks that are not true, where they are a majority
 pub count_not : (xs : List Bool) → yes_count (map not xs) + yes_count xs ≡ length xs
@@ -124,21 +123,21 @@ module _ {V : Type 0} where
       let len : (x : Attempt V) → Stands x old → IsAt i b x → length new.proposing.heard ≡ n = λ x h at. (goes.sound x h at).proposer.heard ∙ goes.count ∙ count in
       record {
         majority = λ x h at size. rest_majority n new.proposing.heard (λ r. Rose (old.bad r) (new.bad r)) size (len x h at) none
-          (λ r lt unheard. elim (reaches.marked x h (ask_fresh i b x old.proposing at) r lt) [
-            | inl marked ↦ elim marked [
+            (λ r lt unheard. elim (reaches.marked x h (ask_fresh i b x old.proposing at) r lt) [
+              | inl marked ↦ elim marked [
                 | inl promised ↦ let clash : true ≡ false = sym promised ∙ none in absurd (cc)
                 | inr heard ↦ let clash : Some true ≡ Some false = sym heard ∙ unheard in absurd (cc)
               ]
-            | inr rose ↦ rose
-          ]);
+              | inr rose ↦ rose
+            ]);
         not_calm = λ x k h at size calm.
-          let all = (reaches.calm x k h (ask_fresh i b x old.proposing at) calm).0 in
-          let most = all_majority n new.proposing.heard size (len x h at) (λ r lt. elim (all r lt) [
-            | inl promised ↦ let clash : true ≡ false = sym promised ∙ none in absurd (cc)
-            | inr heard ↦ heard
-          ]) in
-          let clash : true ≡ false = sym most ∙ none in
-          cc;
+            let all = (reaches.calm x k h (ask_fresh i b x old.proposing at) calm).0 in
+            let most = all_majority n new.proposing.heard size (len x h at) (λ r lt. elim (all r lt) [
+              | inl promised ↦ let clash : true ≡ false = sym promised ∙ none in absurd (cc)
+              | inr heard ↦ heard
+            ]) in
+            let clash : true ≡ false = sym most ∙ none in
+            cc;
       }
 
   pub put_of : (i : ℕ) (b : Ballot) (v : V) (s : Scene V) (x : Attempt V) → v ≡ value_of s.proposing → Stands x s → IsAt i b x → IsFreshOf x (Put i b v)
@@ -162,15 +161,15 @@ module _ {V : Type 0} where
       let len : (x : Attempt V) → Stands x old → IsAt i b x → length new.proposing.acked ≡ n = λ x h at. (goes.sound x h at).proposer.acked ∙ goes.count ∙ count in
       record {
         majority = λ x h at size. rest_majority n new.proposing.acked (λ r. Rose (old.bad r) (new.bad r)) size (len x h at) none
-          (λ r lt unacked. elim (reaches.marked x h (put_fresh i b v old x is promised h at) r lt) [
-            | inl acked ↦ let clash : Some true ≡ Some false = sym acked ∙ unacked in absurd (cc)
-            | inr rose ↦ rose
-          ]);
+            (λ r lt unacked. elim (reaches.marked x h (put_fresh i b v old x is promised h at) r lt) [
+              | inl acked ↦ let clash : Some true ≡ Some false = sym acked ∙ unacked in absurd (cc)
+              | inr rose ↦ rose
+            ]);
         not_calm = λ x k h at size calm.
-          let all = (reaches.calm x k h (put_fresh i b v old x is promised h at) calm).0 in
-          let most = all_majority n new.proposing.acked size (len x h at) all in
-          let clash : true ≡ false = sym most ∙ none in
-          cc;
+            let all = (reaches.calm x k h (put_fresh i b v old x is promised h at) calm).0 in
+            let most = all_majority n new.proposing.acked size (len x h at) all in
+            let clash : true ≡ false = sym most ∙ none in
+            cc;
       }
 
   -- the Puts after the Asks

@@ -1,15 +1,14 @@
 -- From one moment of an attempt to a later one: steps in a row, and each kind of step.
-use Rattle.std.proofs.Common.{◌≡◌, ℕ, zero, suc, ◌+◌, ◌*◌, ◌<◌, ◌≤◌, Bool, true, false, List, [], ◌∷◌, length, ◌⊎◌, inl, inr, arith, subst, refl, sym, ◌∙◌, ap}
+use Rattle.std.proofs.Common.{◌≡◌, ℕ, zero, suc, ◌+◌, ◌*◌, ◌<◌, ◌≤◌, Bool, true, false, List, [], ◌∷◌, ◌⊎◌, inl, inr, arith, subst, refl, sym, ◌∙◌, ap}
 use Rattle.std.proofs.Math.Path.{fun_ext}
-use Rattle.std.specs.Prelude.{slice_get, Option, Some, None, Result, Ok, Err, OnOk, nat_lt, min, IsTrue, ⊤}
+use Rattle.std.specs.Prelude.{Option, Some, None, Result, Ok, Err, OnOk, nat_lt, IsTrue, ⊤}
 use Rattle.slab.specs.Slab.{Slab, get, slab_len}
 use Rattle.outside.specs.declared.weather.Fate.{Fate}
-use Rattle.outside.specs.declared.weather.Fate.TheVariants.{Deliver, Lose, Hold, Repeat}
+use Rattle.outside.specs.declared.weather.Fate.TheVariants.{Deliver, Lose}
 use Rattle.outside.specs.declared.weather.MessageKind.{MessageKind}
 use Rattle.outside.specs.declared.weather.MessageKind.TheVariants as kind
-use Rattle.outside.specs.Count.{one_more, Rose}
+use Rattle.outside.specs.Count.{Rose}
 use Rattle.outside.specs.Weather.{is_bad, Draws}
-use Rattle.paxos_core.specs.declared.ballot.Ballot.{Ballot}
 use Rattle.paxos_core.specs.declared.message.Message.{Message}
 use Rattle.paxos_core.specs.declared.message.Message.TheVariants.{Ask, Promise, Put, Ack, Nack}
 use Rattle.paxos_core.specs.declared.acceptor.Standing.{Standing}
@@ -22,9 +21,9 @@ use Rattle.paxos_group.specs.declared.net.TheConstants.{MOST_HELD}
 use Rattle.paxos_group.specs.Fates.{AllDeliver, Delivers}
 use Rattle.paxos_group.specs.Letters.{kind_of}
 use Rattle.paxos_group.specs.Scene.{Scene, moved, GainsAtMost}
-use Rattle.paxos_group.specs.Sound.{Attempt, ballot_of, IsPresent, IsSent, IsNotLost, ProposerOk, LetterOk, Rests, Stands}
-use Rattle.paxos_group.specs.Steps.{Met, Grows, Came, Goes, IsCalm, IsAwaited, IsCounted, IsFresh, IsMarked, IsFreshOf, IsInTurn, Tells, Reaches, ReachesBelow}
-use Rattle.paxos_group.proofs.Told.{grows-refl, grows-trans, grows_told, counted_told, counted_grows, proposer_told}
+use Rattle.paxos_group.specs.Sound.{Attempt, ballot_of, IsSent, IsNotLost, ProposerOk, LetterOk, Rests, Stands}
+use Rattle.paxos_group.specs.Steps.{Met, Grows, Came, Goes, IsAwaited, IsCounted, IsFresh, IsMarked, IsFreshOf, IsInTurn, Tells, Reaches, ReachesBelow}
+use Rattle.paxos_group.proofs.Told.{grows-refl, grows-trans, grows_told, counted_told, proposer_told}
 use Rattle.paxos_group.proofs.Moved.{rests_moved, proposer_moved, reply_sent, reply_awaited}
 
 -- a count that rose, before or after it only stayed or rose
@@ -241,19 +240,20 @@ module _ {V : Type 0} where
       (goes-weaken (λ x. IsSent x s.kept r m) (λ x. IsSent x s.kept r m × IsNotLost x r m) s mid (moved_goes s count numbers kept r m e f g) (λ x h given. given.0))
       then
       (λ x h there given.
-        let same_kept : kept ≡ moved s.kept r m = fun_ext (λ q. fun_ext (g q)) in
-        let number : s.numbers r ≡ r = h.rests.numbered r lt in
-        let answered : answer r (s.kept r) m ≡ Some reply = subst (λ n. answer n (s.kept r) m ≡ Some reply) number is in
-        (subst (λ c. r < c) (sym e) lt,
-         subst (λ k. IsSent x k r reply) (sym same_kept) (reply_sent x s.kept r m reply h.here h.rests.tops h.rests.standings given.0 given.1 answered)))
+      let same_kept : kept ≡ moved s.kept r m = fun_ext (λ q. fun_ext (g q)) in
+      let number : s.numbers r ≡ r = h.rests.numbered r lt in
+      let answered : answer r (s.kept r) m ≡ Some reply = subst (λ n. answer n (s.kept r) m ≡ Some reply) number is in (
+        subst (λ c. r < c) (sym e) lt,
+        subst (λ k. IsSent x k r reply) (sym same_kept) (reply_sent x s.kept r m reply h.here h.rests.tops h.rests.standings given.0 given.1 answered),
+      ))
 
   pub bring_reaches : (s : Scene V) (count : ℕ) (numbers : ℕ → ℕ) (kept : ℕ → ℕ → Standing V) (r : ℕ) (m reply : Message V) (new : Scene V) →
       r < s.count → answer (s.numbers r) (s.kept r) m ≡ Some reply → Tells reply r (with_replicas s count numbers kept) new → Reaches 1 m r s new
   bring_reaches s count numbers kept r m reply new lt is tells =
       let awaits : (x : Attempt V) → Stands x s → IsFresh x s.proposing m → IsAwaited s.proposing reply × ((q : Proposing V) → IsCounted q reply → IsMarked m q r) = λ x h fresh.
-        let number : s.numbers r ≡ r = h.rests.numbered r lt in
-        let answered : answer r (s.kept r) m ≡ Some reply = subst (λ n. answer n (s.kept r) m ≡ Some reply) number is in
-        reply_awaited x s.count s.kept s.proposing r m reply lt h.last (h.rests.standings r (index_of m)) h.proposer fresh answered in
+      let number : s.numbers r ≡ r = h.rests.numbered r lt in
+      let answered : answer r (s.kept r) m ≡ Some reply = subst (λ n. answer n (s.kept r) m ≡ Some reply) number is in
+      reply_awaited x s.count s.kept s.proposing r m reply lt h.last (h.rests.standings r (index_of m)) h.proposer fresh answered in
       record {
         marked = λ x h fresh. let w = awaits x h fresh in elim (tells.counted w.0) [ inl k ↦ inl (w.1 new.proposing k) | inr rose ↦ inr rose ];
         calm = λ x n h fresh calm. let w = awaits x h fresh in let k = tells.calm n w.0 (record { empty = calm.empty; fates = calm.fates }) in (w.1 new.proposing k.0, k.1);
@@ -332,10 +332,10 @@ module _ {V : Type 0} where
   twice_goes s bad to_come silent twice new r m fate met not first second =
       let mid = with_weather s bad to_come silent in
       let both : Goes (λ x. IsFreshOf x m × IsNotLost x r m) mid new =
-        goes-trans (λ x. IsFreshOf x m × IsNotLost x r m) (λ x. IsFreshOf x m × IsNotLost x r m) mid twice new
-        (goes-weaken (λ x. IsSent x s.kept r m × IsNotLost x r m) (λ x. IsFreshOf x m × IsNotLost x r m) mid twice first (λ x h k. (fresh_sent x mid s.kept r m h k.0, k.1)))
-        (goes-weaken (λ x. IsSent x twice.kept r m × IsNotLost x r m) (λ x. IsFreshOf x m × IsNotLost x r m) twice new second (λ x h k. (fresh_sent x twice twice.kept r m h k.0, k.1)))
-        (λ x h k given. given) in
+      goes-trans (λ x. IsFreshOf x m × IsNotLost x r m) (λ x. IsFreshOf x m × IsNotLost x r m) mid twice new
+      (goes-weaken (λ x. IsSent x s.kept r m × IsNotLost x r m) (λ x. IsFreshOf x m × IsNotLost x r m) mid twice first (λ x h k. (fresh_sent x mid s.kept r m h k.0, k.1)))
+      (goes-weaken (λ x. IsSent x twice.kept r m × IsNotLost x r m) (λ x. IsFreshOf x m × IsNotLost x r m) twice new second (λ x h k. (fresh_sent x twice twice.kept r m h k.0, k.1)))
+      (λ x h k given. given) in
       goes-trans (λ x. IsFreshOf x m) (λ x. IsFreshOf x m × IsNotLost x r m) s mid new
       (lost_goes s (λ x. IsFreshOf x m) bad to_come silent r (kind_of m) fate met) both
       (λ x h k given. (given, not_lost x s.silent r m fate h.silent met.lost not))
@@ -424,9 +424,9 @@ module _ {V : Type 0} where
   reaches_next k m old mid new before then below here = record {
     marked = λ x h fresh r lt. elim (below_or r lt) [
       | inl less ↦ elim (below.marked x h fresh r less) [
-          | inl marked ↦ inl (marked_grows m mid.proposing new.proposing r then.grows marked)
-          | inr rose ↦ inr (rose_before (old.bad r) (mid.bad r) (new.bad r) rose (then.rises r))
-        ]
+        | inl marked ↦ inl (marked_grows m mid.proposing new.proposing r then.grows marked)
+        | inr rose ↦ inr (rose_before (old.bad r) (mid.bad r) (new.bad r) rose (then.rises r))
+      ]
       | inr same ↦ subst (λ r. IsMarked m new.proposing r ⊎ Rose (old.bad r) (new.bad r)) (sym same)
           (elim (here.marked x (before.sound x h fresh.of) (fresh_grows x m old.proposing mid.proposing before.grows fresh)) [
             | inl marked ↦ inl marked
@@ -436,11 +436,13 @@ module _ {V : Type 0} where
     calm = λ x n h fresh calm.
         let more : 2 * (k + 1) + n ≡ 2 * k + (2 + n) = omega arith in
         let first = below.calm x (2 + n) h fresh (record { empty = calm.empty; fates = subst (λ n. Delivers n old.to_come) more calm.fates }) in
-        let second = here.calm x n (before.sound x h fresh.of) (fresh_grows x m old.proposing mid.proposing before.grows fresh) first.1 in
-        (λ r lt. elim (below_or r lt) [
-          | inl less ↦ marked_grows m mid.proposing new.proposing r then.grows (first.0 r less)
-          | inr same ↦ subst (λ r. IsMarked m new.proposing r) (sym same) second.0
-        ], second.1);
+        let second = here.calm x n (before.sound x h fresh.of) (fresh_grows x m old.proposing mid.proposing before.grows fresh) first.1 in (
+          λ r lt. elim (below_or r lt) [
+            | inl less ↦ marked_grows m mid.proposing new.proposing r then.grows (first.0 r less)
+            | inr same ↦ subst (λ r. IsMarked m new.proposing r) (sym same) second.0
+          ],
+          second.1,
+        );
   }
     where
       below_or : (r : ℕ) → r < k + 1 → (r < k) ⊎ (r ≡ k)

@@ -1,24 +1,20 @@
 -- A group as contracts see it.
 use Rattle.std.proofs.Common.{◌≡◌, ℕ, zero, suc, ◌+◌, ◌*◌, ◌<◌, ◌≤◌, Bool, true, false, cond, List, [], ◌∷◌, ◌++◌, length, ◌⊎◌, inl, inr, arith, subst, refl, sym, ◌∙◌, ap, length-append, ◌^◌}
-use Rattle.std.specs.Prelude.{slice_get, map, option_map, Option, Some, None, is_some, nat_lt, slice_index_or, ⊤}
+use Rattle.std.specs.Prelude.{slice_get, map, option_map, Option, Some, None, is_some, nat_lt, slice_index_or}
 use Rattle.std.specs.List.{count_by}
 use Rattle.std.proofs.lemmas.Bool.Decides.{nat_tests}
 use Rattle.std.proofs.lemmas.List.Sums.{sum_by-cons}
-use Rattle.slab.specs.Slab.{Slab, get, slab_len}
+use Rattle.slab.specs.Slab.{slab_len}
 use Rattle.paxos_core.specs.declared.ballot.Ballot.{Ballot}
 use Rattle.paxos_core.specs.declared.acceptor.Acceptor.{Acceptor}
-use Rattle.paxos_core.specs.declared.acceptor.Standing.{Standing}
 use Rattle.paxos_core.specs.Acceptor.{standing_of, replica_of}
 use Rattle.paxos_core.specs.Standing.{blank}
-use Rattle.paxos_core.specs.Ballot.{rank}
-use Rattle.paxos_core.specs.Majority.{is_majority, IsMajority}
-use Rattle.paxos_core.proofs.MajorityLemmas.{IsMajority-map, yes_count, yes_true, yes_false, yes_count-mono, more_than_half}
+use Rattle.paxos_core.proofs.MajorityLemmas.{yes_count, yes_true, yes_false, yes_count-mono, more_than_half}
 use Rattle.paxos_group.proofs.Attempts.{get_append, get_last}
-use Rattle.paxos_group.specs.declared.letter.Letter.{Letter}
 use Rattle.paxos_group.specs.declared.net.Net.{Net}
 use Rattle.paxos_group.specs.declared.net.TheConstants.{MOST_HELD}
 use Rattle.paxos_group.specs.Scene.{kept_by, kept_at, number_by, number_at}
-use Rattle.paxos_group.specs.Sound.{Attempt, ballot_of, Keeps, StandingOk, IsProposed, LetterOk, Rests}
+use Rattle.paxos_group.specs.Sound.{Attempt, ballot_of, Keeps, StandingOk, IsProposed}
 use Rattle.paxos_group.specs.Steps.{IsGroupSize}
 use Rattle.paxos_group.specs.Formed.{IsFormed, list_of}
 use Rattle.paxos_group.specs.Settling.{Settling, IsCount, each_below, accepted_by, row_at, accepted_at, Holds, IsSettled}
@@ -127,16 +123,18 @@ module _ {V : Type 0} where
   pub settled : (replicas : ℕ) (net : Net V) (log : List V) (pending : Option V) (round i : ℕ) → IsFormed replicas net log pending round → i < length log → IsSettled (seen replicas net log pending round) i
   settled replicas net log pending round i f lt =
       let index = f.index in
-      let m = f.rests.settled i (omega arith) in
-      (ballot_of (f.x.tops i), record {
-        marks = m.marks;
-        count = m.count ∙ f.count;
-        most = m.most;
-        each = λ r mark.
-          let k = m.each r mark in
-          let who = keeper net f.x i r k in
-          holds replicas net log pending round i r who.0 (ballot_of (f.x.tops i)) k.command f lt who.1 (sym (ap (λ o. (kept_by o i).accepted) who.1) ∙ k.accepted);
-      })
+      let m = f.rests.settled i (omega arith) in (
+        ballot_of (f.x.tops i),
+        record {
+          marks = m.marks;
+          count = m.count ∙ f.count;
+          most = m.most;
+          each = λ r mark.
+              let k = m.each r mark in
+              let who = keeper net f.x i r k in
+              holds replicas net log pending round i r who.0 (ballot_of (f.x.tops i)) k.command f lt who.1 (sym (ap (λ o. (kept_by o i).accepted) who.1) ∙ k.accepted);
+        },
+      )
 
   pub holders_count : (replicas : ℕ) (net : Net V) (log : List V) (pending : Option V) (round i count : ℕ) → IsFormed replicas net log pending round → i < length log →
       count ≡ count_by (accepts i) net.acceptors.items → IsCount replicas (λ r. (b : Ballot) × Holds (seen replicas net log pending round) i r b) count
@@ -151,15 +149,18 @@ module _ {V : Type 0} where
       yes_at : (r : ℕ) (a : Acceptor V) → slice_get net.acceptors.items r ≡ Some a → (o : Option (Ballot × V)) → (standing_of a i).accepted ≡ o → is_some o ≡ true → (b : Ballot) × Holds (seen replicas net log pending round) i r b
       yes_at r a e None f1 t = absurd (cc)
       yes_at r a e (Some y) f1 t = (y.0, holds replicas net log pending round i r a y.0 y.1 f lt e f1)
+
       yes : (r : ℕ) (o : Option (Acceptor V)) → slice_get net.acceptors.items r ≡ o → option_map (accepts i) (slice_get net.acceptors.items r) ≡ Some true → (b : Ballot) × Holds (seen replicas net log pending round) i r b
       yes r None e t = let clash : None ≡ Some true = sym (ap (option_map (accepts i)) e) ∙ t in absurd (cc)
       yes r (Some a) e t = let k : Some (accepts i a) ≡ Some true = sym (ap (option_map (accepts i)) e) ∙ t in let l : accepts i a ≡ true = cc in yes_at r a e (standing_of a i).accepted refl l
+
       no_at : (r : ℕ) (b : Ballot) → Holds (seen replicas net log pending round) i r b → (a : Acceptor V) → slice_get net.acceptors.items r ≡ Some a → (o : Option (Ballot × V)) → (standing_of a i).accepted ≡ o → is_some o ≡ false → ⊥
       no_at r b h a e (Some y) f1 t = cc
       no_at r b h a e None f1 t =
           let k : Some (standing_of a i).accepted ≡ Some (Some (b, h.command)) = sym (shown replicas net log pending round i r a lt e) ∙ h.accepted in
           let l : (standing_of a i).accepted ≡ Some (b, h.command) = cc in
           none_not_some (standing_of a i).accepted (b, h.command) f1 l
+
       no_one : (r : ℕ) (b : Ballot) → Holds (seen replicas net log pending round) i r b → (o : Option (Acceptor V)) → slice_get net.acceptors.items r ≡ o → option_map (accepts i) (slice_get net.acceptors.items r) ≡ Some false → ⊥
       no_one r b h None e t = let clash : None ≡ Some false = sym (ap (option_map (accepts i)) e) ∙ t in cc
       no_one r b h (Some a) e t = let k : Some (accepts i a) ≡ Some false = sym (ap (option_map (accepts i)) e) ∙ t in let l : accepts i a ≡ false = cc in no_at r b h a e (standing_of a i).accepted refl l
@@ -173,10 +174,10 @@ module _ {V : Type 0} where
       let marks = map (accepts i) net.acceptors.items in
       let len = length_map (accepts i) net.acceptors.items in
       let below = yes_count-mono m.marks marks (m.count ∙ sym len) (λ r mark.
-        let k = m.each r mark in
-        let who = keeper net f.x i r k in
-        let accepted : (standing_of who.0 i).accepted ≡ Some (ballot_of (f.x.tops i), k.command) = sym (ap (λ o. (kept_by o i).accepted) who.1) ∙ k.accepted in
-        get_map (accepts i) net.acceptors.items r ∙ ap (option_map (accepts i)) who.1 ∙ ap (λ o. Some (is_some o)) accepted) in
+      let k = m.each r mark in
+      let who = keeper net f.x i r k in
+      let accepted : (standing_of who.0 i).accepted ≡ Some (ballot_of (f.x.tops i), k.command) = sym (ap (λ o. (kept_by o i).accepted) who.1) ∙ k.accepted in
+      get_map (accepts i) net.acceptors.items r ∙ ap (option_map (accepts i)) who.1 ∙ ap (λ o. Some (is_some o)) accepted) in
       let all = count_map (accepts i) net.acceptors.items in
       let n = m.count in
       let c = f.count in

@@ -6,3 +6,4 @@ pub mod Doubt
 pub mod Attempts
 pub mod Stillness
 pub mod Groups
+pub mod Enduring

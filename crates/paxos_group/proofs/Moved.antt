@@ -1,21 +1,19 @@
 -- A message comes to a replica: what holds still holds, and what it answers is as it should be.
-use Rattle.std.proofs.Common.{◌≡◌, ℕ, ◌+◌, ◌*◌, ◌^◌, ◌<◌, ◌≤◌, Bool, true, false, ◌&&◌, List, [], ◌∷◌, length, ◌⊎◌, inl, inr, arith, subst, refl, sym, ◌∙◌, ap}
-use Rattle.std.specs.Prelude.{slice_get, Option, Some, None, ◌==◌, if◌then◌else◌, ⊤}
+use Rattle.std.proofs.Common.{◌≡◌, ℕ, ◌<◌, ◌≤◌, Bool, true, false, length, ◌⊎◌, inl, inr, arith, subst, refl, sym, ◌∙◌, ap}
+use Rattle.std.specs.Prelude.{slice_get, Option, Some, None, ◌==◌}
 use Rattle.std.proofs.lemmas.Bool.Decides.{nat_tests}
-use Rattle.slab.specs.Slab.{Slab, get}
-use Rattle.outside.specs.declared.weather.MessageKind.TheVariants as kind
+use Rattle.slab.specs.Slab.{Slab}
 use Rattle.paxos_core.specs.declared.ballot.Ballot.{Ballot}
 use Rattle.paxos_core.specs.declared.message.Message.{Message}
 use Rattle.paxos_core.specs.declared.message.Message.TheVariants.{Ask, Promise, Put, Ack, Nack}
 use Rattle.paxos_core.specs.declared.acceptor.Standing.{Standing}
 use Rattle.paxos_core.specs.Ballot.{rank, is_below}
-use Rattle.paxos_core.specs.Standing.{index_of, after, with_message, answer}
+use Rattle.paxos_core.specs.Standing.{index_of, after, answer}
 use Rattle.paxos_core.specs.Proposing.{Proposing, is_for}
-use Rattle.paxos_core.proofs.AtAcceptor.{same_place}
 use Rattle.paxos_core.proofs.MajorityLemmas.{IsMajority-map}
 use Rattle.paxos_group.specs.declared.letter.Letter.{Letter}
 use Rattle.paxos_group.specs.Scene.{moved}
-use Rattle.paxos_group.specs.Sound.{Attempt, ballot_of, IsReached, IsPresent, IsProposed, IsWithin, IsSent, IsNotLost, Keeps, PutOk, StandingOk, ProposerOk, LetterOk, Rests}
+use Rattle.paxos_group.specs.Sound.{Attempt, ballot_of, IsReached, IsWithin, IsSent, IsNotLost, Keeps, StandingOk, ProposerOk, Rests}
 use Rattle.paxos_group.specs.Steps.{IsFresh, IsAwaited, IsMarked, IsCounted}
 
 pub same_number : (x : ℕ) → (x == x) ≡ true
@@ -70,10 +68,10 @@ module _ {V : Type 0} where
   keeps_moved x kept r m ok sent q i k = elim (moved_cases kept r m q i) [
     | inl same ↦ record { command = k.command; proposed = k.proposed; accepted = ap (λ s. s.accepted) same ∙ k.accepted }
     | inr here ↦ record {
-        command = k.command;
-        proposed = k.proposed;
-        accepted = ap (λ s. s.accepted) here.2 ∙ keeps_after x kept r i (kept q i) m k.command sent here.1 k.proposed (ok q i).within k.accepted;
-      }
+      command = k.command;
+      proposed = k.proposed;
+      accepted = ap (λ s. s.accepted) here.2 ∙ keeps_after x kept r i (kept q i) m k.command sent here.1 k.proposed (ok q i).within k.accepted;
+    }
   ]
 
   pub standing_after : (x : Attempt V) (kept : ℕ → ℕ → Standing V) (r i : ℕ) (s : Standing V) (m : Message V) → ((i : ℕ) → x.tops i ≤ x.last) → IsSent x kept r m → i ≡ index_of m →
@@ -86,6 +84,7 @@ module _ {V : Type 0} where
       rises : (accepted : Option (Ballot × V)) → rank s.promised ≤ rank b → IsWithin s.promised accepted → IsWithin b accepted
       rises None le w = tt
       rises (Some y) le w = omega arith
+
       go : (t : Bool) → is_below b s.promised ≡ t → StandingOk x i (after s (Ask j b))
       go true f = rw f h
       go false f = let le : rank s.promised ≤ rank b = grind (arith, nat_tests) in
@@ -127,8 +126,17 @@ module _ {V : Type 0} where
   pub proposer_moved : (x : Attempt V) (count : ℕ) (kept : ℕ → ℕ → Standing V) (r : ℕ) (m : Message V) (p : Proposing V) → ((r i : ℕ) → StandingOk x i (kept r i)) → IsSent x kept r m →
       ProposerOk x count kept p → ProposerOk x count (moved kept r m) p
   proposer_moved x count kept r m p ok sent h =
-      record { index = h.index; ballot = h.ballot; own = h.own; best = h.best; heard = h.heard; acked = h.acked;
-        keeps = λ q k. keeps_moved x kept r m ok sent q x.index (h.keeps q k); put = h.put; ack = h.ack }
+      record {
+        index = h.index;
+        ballot = h.ballot;
+        own = h.own;
+        best = h.best;
+        heard = h.heard;
+        acked = h.acked;
+        keeps = λ q k. keeps_moved x kept r m ok sent q x.index (h.keeps q k);
+        put = h.put;
+        ack = h.ack;
+      }
 
   -- an answer is one that the replica may send
   pub reply_sent : (x : Attempt V) (kept : ℕ → ℕ → Standing V) (r : ℕ) (m reply : Message V) → x.tops x.index ≡ x.round → ((i : ℕ) → x.tops i ≤ x.last) → ((r i : ℕ) → StandingOk x i (kept r i)) →

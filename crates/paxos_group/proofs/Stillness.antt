@@ -1,9 +1,8 @@
 -- Calm for many messages is calm for fewer.
-use Rattle.std.proofs.Common.{◌≡◌, ℕ, zero, suc, ◌+◌, ◌*◌, ◌<◌, ◌≤◌, List, [], ◌∷◌, arith, subst, sym, ap}
+use Rattle.std.proofs.Common.{◌≡◌, ℕ, zero, suc, ◌+◌, ◌*◌, ◌≤◌, List, [], ◌∷◌, arith, ap}
 use Rattle.std.specs.Prelude.{Option, Some, None}
 use Rattle.outside.specs.declared.weather.Fate.{Fate}
 use Rattle.paxos_group.specs.declared.parts.Parts.{Parts}
-use Rattle.paxos_group.specs.declared.net.Net.{Net}
 use Rattle.paxos_group.specs.Fates.{AllDeliver, Delivers, IsStill}
 
 pub all_deliver_less : (n m : ℕ) (fates : List Fate) → m ≤ n → AllDeliver n fates → AllDeliver m fates

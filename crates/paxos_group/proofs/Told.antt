@@ -1,7 +1,6 @@
 -- What a message makes of the proposer of an attempt.
-use Rattle.std.proofs.Common.{◌≡◌, ℕ, zero, suc, ◌<◌, ◌≤◌, Bool, true, false, not, ◌&&◌, List, [], ◌∷◌, length, ◌⊎◌, inl, inr, arith, subst, refl, sym, ◌∙◌, ap}
-use Rattle.std.specs.Prelude.{slice_get, slice_set, slice_index_or, Option, Some, None, ◌==◌, if◌then◌else◌, ⊤}
-use Rattle.std.proofs.lemmas.Bool.Decides.{nat_tests}
+use Rattle.std.proofs.Common.{◌≡◌, ℕ, zero, suc, Bool, true, false, not, ◌&&◌, List, [], ◌∷◌, inl, inr, subst, refl, sym, ◌∙◌, ap}
+use Rattle.std.specs.Prelude.{slice_get, slice_set, slice_index_or, Option, Some, None, if◌then◌else◌}
 use Rattle.std.proofs.lemmas.List.{length-set}
 use Rattle.outside.specs.declared.weather.MessageKind.TheVariants as kind
 use Rattle.paxos_core.specs.declared.ballot.Ballot.{Ballot}
@@ -10,7 +9,7 @@ use Rattle.paxos_core.specs.declared.message.Message.TheVariants.{Ask, Promise, 
 use Rattle.paxos_core.specs.declared.acceptor.Standing.{Standing}
 use Rattle.paxos_core.specs.Ballot.{rank, is_below}
 use Rattle.paxos_core.specs.Proposing.{Proposing, is_promised, is_for, is_new, better, told}
-use Rattle.paxos_core.proofs.ProposingLemmas.{and_true, not_true, is_for_means, promised_stays}
+use Rattle.paxos_core.proofs.ProposingLemmas.{and_true, is_for_means, promised_stays}
 use Rattle.paxos_core.proofs.MessagesLemmas.{mark_here, marked}
 use Rattle.paxos_core.proofs.MajorityLemmas.{true_in_set}
 use Rattle.paxos_group.specs.Sound.{Attempt, IsProposed, IsPresent, IsSent, IsNotLost, Keeps, ProposerOk}
@@ -44,6 +43,7 @@ module _ {V : Type 0} where
       heard : (r : ℕ) → slice_get p.heard r ≡ Some true → (t : Bool) → (is_for p i b && (is_new p q && not (is_promised p))) ≡ t → slice_get (told p (Promise q i b a)).heard r ≡ Some true
       heard r h true e = rw e (true_stays p.heard q r h)
       heard r h false e = rw e h
+
       acked : (r : ℕ) → slice_get p.acked r ≡ Some true → (t : Bool) → (is_for p i b && (is_new p q && not (is_promised p))) ≡ t → slice_get (told p (Promise q i b a)).acked r ≡ Some true
       acked r h true e = rw e h
       acked r h false e = rw e h
@@ -56,6 +56,7 @@ module _ {V : Type 0} where
       heard : (r : ℕ) → slice_get p.heard r ≡ Some true → (t : Bool) → (is_for p i b && is_promised p) ≡ t → slice_get (told p (Ack q i b)).heard r ≡ Some true
       heard r h true e = rw e h
       heard r h false e = rw e h
+
       acked : (r : ℕ) → slice_get p.acked r ≡ Some true → (t : Bool) → (is_for p i b && is_promised p) ≡ t → slice_get (told p (Ack q i b)).acked r ≡ Some true
       acked r h true e = rw e (true_stays p.acked q r h)
       acked r h false e = rw e h

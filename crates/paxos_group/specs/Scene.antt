@@ -7,7 +7,7 @@ use Rattle.paxos_core.specs.declared.message.Message.{Message}
 use Rattle.paxos_core.specs.declared.acceptor.Acceptor.{Acceptor}
 use Rattle.paxos_core.specs.declared.acceptor.Standing.{Standing}
 use Rattle.paxos_core.specs.Acceptor.{standing_of, replica_of}
-use Rattle.paxos_core.specs.Standing.{blank, with_message, answer}
+use Rattle.paxos_core.specs.Standing.{blank, with_message}
 use Rattle.paxos_core.specs.Proposing.{Proposing}
 use Rattle.paxos_group.specs.declared.letter.Letter.{Letter}
 use Rattle.paxos_group.specs.declared.net.Net.{Net}

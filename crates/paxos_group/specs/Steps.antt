@@ -1,6 +1,6 @@
 -- What the parts of an attempt do, from one moment to a later one.
-use Rattle.std.specs.Prelude.{◌≡◌, ℕ, ◌+◌, ◌*◌, ◌<◌, ◌≤◌, Bool, true, false, ◌⊎◌, List, length, Option, Some, None, slice_get, IsTrue, ⊤}
-use Rattle.slab.specs.Slab.{Slab, slab_len}
+use Rattle.std.specs.Prelude.{◌≡◌, ℕ, ◌+◌, ◌*◌, ◌<◌, ◌≤◌, Bool, true, ◌⊎◌, List, length, Option, Some, slice_get, IsTrue, ⊤}
+use Rattle.slab.specs.Slab.{slab_len}
 use Rattle.outside.specs.declared.weather.Fate.{Fate}
 use Rattle.outside.specs.declared.weather.Fate.TheVariants.{Lose}
 use Rattle.outside.specs.declared.weather.MessageKind.{MessageKind}
@@ -24,6 +24,11 @@ pub record Met (bad bad' : ℕ → ℕ) (to_come to_come' : Option (List Fate)) 
   pub draws : Draws to_come to_come' fate
   pub lost : silent r k ≡ true → fate ≡ Lose
   pub same_silence : (q : ℕ) (j : MessageKind) → silent' q j ≡ silent q j
+
+-- the weather of every store: no count fell, and the same messages are always lost
+pub record Endures (bad bad' : ℕ → ℕ → ℕ) (silent silent' : ℕ → ℕ → MessageKind → Bool) : Type 0 where
+  pub never_falls : (store r : ℕ) → bad store r ≤ bad' store r
+  pub same_silence : (store r : ℕ) (k : MessageKind) → silent' store r k ≡ silent store r k
 
 -- how many replicas a group has
 abbrev pub IsGroupSize : ℕ → Type 0

@@ -1,8 +1,9 @@
 //! The group.
 
-ghost use Rattle.std.specs.Prelude.{◌≡◌, ℕ, ◌*◌, ◌^◌, ◌<◌, ◌⊎◌, [], None, length, IfOk, IfErr, OnOk, OnErr, IsTrue, true, false, is_some, option_copied, count_by};
+ghost use Rattle.std.specs.Prelude.{◌≡◌, ℕ, ◌+◌, ◌*◌, ◌^◌, ◌<◌, ◌≤◌, ◌⊎◌, [], None, length, IfOk, IfErr, OnOk, OnErr, IsTrue, true, false, is_some, option_copied, count_by};
 ghost use Rattle.outside.specs.Count.{Rose};
 ghost use Rattle.outside.specs.Weather.{is_heard};
+ghost use Rattle.outside.specs.declared.weather.MessageKind.{MessageKind};
 ghost use Rattle.paxos_core.specs.declared.ballot.Ballot.{Ballot};
 ghost use Rattle.paxos_core.specs.Acceptor.{standing_of};
 ghost use Rattle.paxos_core.specs.Standing.{blank};
@@ -39,8 +40,14 @@ impl<V> Model for Group<V> {
     ghost Value = { Settling V };
 
     ghost view = { λ a. record {
-        store = a.parts.net.store; replicas = a.parts.replicas; accepted = each_below (accepted_by a.parts.net.acceptors.items) (length a.parts.log.items);
-        log = a.parts.log.items; pending = a.parts.pending; round = a.parts.round; held = slab_len a.parts.net.held } };
+      store = a.parts.net.store;
+      replicas = a.parts.replicas;
+      accepted = each_below (accepted_by a.parts.net.acceptors.items) (length a.parts.log.items);
+      log = a.parts.log.items;
+      pending = a.parts.pending;
+      round = a.parts.round;
+      held = slab_len a.parts.net.held;
+    } };
 
     ghost invariant = { λ a. IsFormed a.parts.replicas a.parts.net a.parts.log.items a.parts.pending a.parts.round };
 }
@@ -102,12 +109,7 @@ impl<V: Copies> Group<V> {
 
     /// Appends a command. The pending command, where there is one, is proposed again first, and this one
     /// only once that is settled. A command whose outcome is in doubt is pending from then on.
-    pub fn append<W: Weather>(
-        &mut self,
-        alloc: Global,
-        command: &V,
-        weather: &mut W,
-    ) -> Appended
+    pub fn append<W: Weather>(&mut self, alloc: Global, command: &V, weather: &mut W) -> Appended
         requires round { self.old.round < 2 ^ 63 }
         requires next { length self.old.log < 2 ^ 63 }
 
@@ -126,6 +128,11 @@ impl<V: Copies> Group<V> {
         // It is in doubt only where a majority of the replicas had a bad fate, and never in calm weather.
         ensures doubt { IfErr result.own (λ fault. fault ≡ GroupFault.Doubt → IsMajority self.old.replicas (λ r. Rose (W.bad weather.old self.old.store r) (W.bad weather.new self.old.store r))) }
         ensures no_doubt { IfErr result.own (λ fault. fault ≡ GroupFault.Doubt → IsStill self.old.held (W.to_come weather.old) (8 * self.old.replicas) → ⊥) }
+        ensures still { OnOk result.own ((n : ℕ) → IsStill self.old.held (W.to_come weather.old) (8 * self.old.replicas + n) → IsStill self.new.held (W.to_come weather.new) n) }
+
+        // No count falls, of any store, and what the weather always loses stays.
+        ensures never_falls { (store replica : ℕ) → W.bad weather.old store replica ≤ W.bad weather.new store replica }
+        ensures same_silence { (store replica : ℕ) (kind : MessageKind) → W.silent weather.new store replica kind ≡ W.silent weather.old store replica kind }
     {
         self.parts.append(alloc, command, weather)
     }

@@ -2,7 +2,7 @@
 
 ghost use Rattle.std.specs.Prelude.{◌≡◌, IfOk};
 ghost use Rattle.paxos_group.specs.Letters.{kind_of, name_of, is_to_replica};
-ghost use Rattle.paxos_group.specs.Steps.{Met};
+ghost use Rattle.paxos_group.specs.Steps.{Met, Endures};
 
 use nfs3_types::NoMemory;
 use outside::{Fate, MessageKind, MessageName, Weather};
@@ -24,10 +24,19 @@ fn name_of<V>(store: u32, replica: u32, message: &Message<V>) -> MessageName
 {
     let (to_replica, kind, index, round) = match message {
         Message::Ask { index, ballot } => (true, MessageKind::Ask, *index, ballot.round),
-        Message::Promise { index, ballot, .. } => (false, MessageKind::Promise, *index, ballot.round),
+        Message::Promise { index, ballot, .. } => (
+            false,
+            MessageKind::Promise,
+            *index,
+            ballot.round,
+        ),
         Message::Put { index, ballot, .. } => (true, MessageKind::Put, *index, ballot.round),
         Message::Ack { index, ballot, .. } => (false, MessageKind::Ack, *index, ballot.round),
-        Message::Nack { index, promised, .. } => (false, MessageKind::Nack, *index, promised.round),
+        Message::Nack {
+            index,
+            promised,
+            ..
+        } => (false, MessageKind::Nack, *index, promised.round),
     };
     MessageName {
         store,
@@ -53,7 +62,8 @@ pub(crate) fn fate_of<V, W: Weather>(
     message: &Message<V>,
     weather: &mut W,
 ) -> Fate
-    ensures { Met (λ r. W.bad weather.old store r) (λ r. W.bad weather.new store r) (W.to_come weather.old) (W.to_come weather.new)
+    ensures endures { Endures (W.bad weather.old) (W.bad weather.new) (W.silent weather.old) (W.silent weather.new) }
+    ensures met { Met (λ r. W.bad weather.old store r) (λ r. W.bad weather.new store r) (W.to_come weather.old) (W.to_come weather.new)
         (λ r k. W.silent weather.old store r k) (λ r k. W.silent weather.new store r k) replica (kind_of message.now) result }
 {
     weather.fate(name_of(store, replica, message))

@@ -8,7 +8,7 @@ ghost use Rattle.paxos_core.specs.declared.proposer.Stage.{Stage};
 ghost use Rattle.paxos_group.specs.declared.fault.GroupFault.{GroupFault};
 ghost use Rattle.paxos_group.specs.Scene.{number_at, kept_at, IsMoved, IsKept, GainsAtMost, scene};
 ghost use Rattle.paxos_group.specs.Sound.{Attempt, IsSent, IsNotLost};
-ghost use Rattle.paxos_group.specs.Steps.{Came, IsAwaited, IsCounted, Goes, Tells, IsFreshOf, Reaches, ReachesBelow, IsAt, StaysCalm, Doubts};
+ghost use Rattle.paxos_group.specs.Steps.{Came, IsAwaited, IsCounted, Goes, Tells, IsFreshOf, Reaches, ReachesBelow, IsAt, StaysCalm, Doubts, Endures};
 
 use crate::fault::GroupFault;
 use crate::letter::{Letter, copy_of, fate_of, is_for_replica};
@@ -19,7 +19,7 @@ use slab::Slab;
 use std::alloc::Global;
 
 /// The most messages that are held back; one more is lost.
-pub const MOST_HELD: usize = 64;
+pub(crate) const MOST_HELD: usize = 64;
 
 /// The replicas of a store, and the messages between them and their group that are held back.
 #[derive(Debug, Drop)]
@@ -90,6 +90,7 @@ impl<V: Copies> Net<V> {
         weather: &mut W,
         letter: Letter<V>,
     ) -> Result<(), NoMemory>
+        ensures endures { Endures (W.bad weather.old) (W.bad weather.new) (W.silent weather.old) (W.silent weather.new) }
         ensures goes { Goes (λ x. (letter.replica < length self.old.acceptors.items) × IsSent x (kept_at self.old.acceptors.items) letter.replica letter.message)
             (scene W.bad W.to_come W.silent weather.old self.old proposer.old)
             (scene W.bad W.to_come W.silent weather.new self.new proposer.new) }
@@ -118,6 +119,7 @@ impl<V: Copies> Net<V> {
         message: &Message<V>,
     ) -> Result<(), NoMemory>
         requires { replica < length self.old.acceptors.items }
+        ensures endures { Endures (W.bad weather.old) (W.bad weather.new) (W.silent weather.old) (W.silent weather.new) }
         ensures goes { Goes (λ x. IsSent x (kept_at self.old.acceptors.items) replica message.now × IsNotLost x replica message.now)
             (scene W.bad W.to_come W.silent weather.old self.old proposer.old)
             (scene W.bad W.to_come W.silent weather.new self.new proposer.new) }
@@ -146,6 +148,7 @@ impl<V: Copies> Net<V> {
         proposer: &mut Proposer<V>,
         weather: &mut W,
     ) -> Result<(), NoMemory>
+        ensures endures { Endures (W.bad weather.old) (W.bad weather.new) (W.silent weather.old) (W.silent weather.new) }
         ensures goes { Goes (λ x. ⊤)
             (scene W.bad W.to_come W.silent weather.old self.old proposer.old)
             (scene W.bad W.to_come W.silent weather.new self.new proposer.new) }
@@ -177,6 +180,7 @@ impl<V: Copies> Net<V> {
         message: &Message<V>,
     ) -> Result<(), NoMemory>
         requires { replica < length self.old.acceptors.items }
+        ensures endures { Endures (W.bad weather.old) (W.bad weather.new) (W.silent weather.old) (W.silent weather.new) }
         ensures goes { Goes (λ x. IsFreshOf x message.now)
             (scene W.bad W.to_come W.silent weather.old self.old proposer.old)
             (scene W.bad W.to_come W.silent weather.new self.new proposer.new) }
@@ -209,6 +213,7 @@ impl<V: Copies> Net<V> {
         message: &Message<V>,
     ) -> Result<(), NoMemory>
         requires { length self.old.acceptors.items ≡ replicas }
+        ensures endures { Endures (W.bad weather.old) (W.bad weather.new) (W.silent weather.old) (W.silent weather.new) }
         ensures goes { Goes (λ x. IsFreshOf x message.now)
             (scene W.bad W.to_come W.silent weather.old self.old proposer.old)
             (scene W.bad W.to_come W.silent weather.new self.new proposer.new) }
@@ -233,6 +238,7 @@ impl<V: Copies> Net<V> {
         ballot: Ballot,
     ) -> Result<(), GroupFault>
         requires { length self.old.acceptors.items ≡ replicas }
+        ensures endures { Endures (W.bad weather.old) (W.bad weather.new) (W.silent weather.old) (W.silent weather.new) }
         ensures goes { Goes (IsAt index ballot)
             (scene W.bad W.to_come W.silent weather.old self.old proposer.old)
             (scene W.bad W.to_come W.silent weather.new self.new proposer.new) }
@@ -266,6 +272,7 @@ impl<V: Copies> Net<V> {
     ) -> Result<(), GroupFault>
         requires count { length self.old.acceptors.items ≡ replicas }
         requires promised { is_promised proposer.old ≡ true }
+        ensures endures { Endures (W.bad weather.old) (W.bad weather.new) (W.silent weather.old) (W.silent weather.new) }
         ensures goes { Goes (IsAt index ballot)
             (scene W.bad W.to_come W.silent weather.old self.old proposer.old)
             (scene W.bad W.to_come W.silent weather.new self.new proposer.new) }
@@ -305,6 +312,7 @@ impl<V: Copies> Net<V> {
         ballot: Ballot,
     ) -> Result<(), GroupFault>
         requires { length self.old.acceptors.items ≡ replicas }
+        ensures endures { Endures (W.bad weather.old) (W.bad weather.new) (W.silent weather.old) (W.silent weather.new) }
         ensures goes { Goes (IsAt index ballot)
             (scene W.bad W.to_come W.silent weather.old self.old proposer.old)
             (scene W.bad W.to_come W.silent weather.new self.new proposer.new) }

@@ -11,6 +11,7 @@ ghost use Rattle.paxos_group.specs.Fates.{IsStill};
 ghost use Rattle.paxos_group.specs.Sound.{ballot_of};
 ghost use Rattle.paxos_group.specs.Formed.{IsFormed, list_of};
 ghost use Rattle.paxos_group.specs.Ledger.{Leaves, ledger_of};
+ghost use Rattle.paxos_group.specs.Steps.{Endures};
 ghost use Rattle.paxos_group.specs.declared.fault.GroupFault.{GroupFault};
 
 use crate::fault::{Appended, GroupFault};
@@ -72,6 +73,7 @@ impl<V: Copies> Parts<V> {
         requires proposer { proposer.old ≡ begins self.old.replicas (length self.old.log.items) (ballot_of self.old.round) own }
         requires room { vec_len self.old.log < vec_capacity self.old.log }
         requires round { self.old.round + 1 < 2 ^ 64 }
+        ensures endures { Endures (W.bad weather.old) (W.bad weather.new) (W.silent weather.old) (W.silent weather.new) }
         ensures formed { IsFormed self.new.replicas self.new.net self.new.log.items self.new.pending self.new.round }
         ensures log { OnOk result (self.new.log.items ≡ self.old.log.items ++ own ∷ []) }
         ensures none_pending { OnOk result (self.new.pending ≡ None) }
@@ -125,6 +127,7 @@ impl<V: Copies> Parts<V> {
         requires proposer { proposer.old ≡ begins self.old.replicas (length self.old.log.items) (ballot_of self.old.round) own }
         requires room { vec_len self.old.log < vec_capacity self.old.log }
         requires round { self.old.round + 1 < 2 ^ 64 }
+        ensures endures { Endures (W.bad weather.old) (W.bad weather.new) (W.silent weather.old) (W.silent weather.new) }
         ensures formed { IsFormed self.new.replicas self.new.net self.new.log.items self.new.pending self.new.round }
         ensures leaves { Leaves result.own result.doubted (record { log = self.old.log.items; pending = None; round = self.old.round }) (ledger_of self.new) own result }
         ensures replicas { self.new.replicas ≡ self.old.replicas }
@@ -164,6 +167,7 @@ impl<V: Copies> Parts<V> {
         requires proposer { proposer.old ≡ begins self.old.replicas (length self.old.log.items + 1) (ballot_of (self.old.round + 1)) own }
         requires room { vec_len self.old.log + 1 < vec_capacity self.old.log }
         requires round { self.old.round + 2 < 2 ^ 64 }
+        ensures endures { Endures (W.bad weather.old) (W.bad weather.new) (W.silent weather.old) (W.silent weather.new) }
         ensures formed { IsFormed self.new.replicas self.new.net self.new.log.items self.new.pending self.new.round }
         ensures leaves { Leaves result.own result.doubted (record { log = self.old.log.items; pending = Some pending; round = self.old.round }) (ledger_of self.new) own result }
         ensures replicas { self.new.replicas ≡ self.old.replicas }
@@ -233,6 +237,7 @@ impl<V: Copies> Parts<V> {
         requires formed { IsFormed self.old.replicas self.old.net self.old.log.items self.old.pending self.old.round }
         requires log { length self.old.log.items < 2 ^ 63 }
         requires round { self.old.round < 2 ^ 63 }
+        ensures endures { Endures (W.bad weather.old) (W.bad weather.new) (W.silent weather.old) (W.silent weather.new) }
         ensures formed { IsFormed self.new.replicas self.new.net self.new.log.items self.new.pending self.new.round }
         ensures leaves { Leaves result.own result.doubted (ledger_of self.old) (ledger_of self.new) command.now result }
         ensures replicas { self.new.replicas ≡ self.old.replicas }

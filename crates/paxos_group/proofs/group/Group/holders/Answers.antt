@@ -1,7 +1,7 @@
-use Rattle.std.proofs.Common.{◌≡◌, ℕ, ◌<◌, ◌*◌, length, subst, sym, ◌∙◌, ap}
+use Rattle.std.proofs.Common.{◌<◌, ◌*◌, length, subst, sym, ◌∙◌, ap}
 use Rattle.std.specs.List.{count_by}
 use Rattle.paxos_core.specs.declared.ballot.Ballot.{Ballot}
-use Rattle.paxos_group.specs.Settling.{Settling, IsCount, Holds, IsSettled}
+use Rattle.paxos_group.specs.Settling.{IsCount, Holds, IsSettled}
 use Rattle.paxos_group.proofs.Groups.{settled, holders_count, holders_majority, accepts}
 use Rattle.paxos_group.proofs.group.Group.holders.Goals as goal
 
@@ -25,4 +25,3 @@ returns-clause-settled g c =
     let lt : c.args.index < length p.log.items = subst (λ s. c.args.index < length s.log) (sym c.self.view_is) c.requires in
     subst (λ s. IsSettled s c.args.index) c.self.view_is
     (settled p.replicas p.net p.log.items p.pending p.round c.args.index c.self.invariant lt)
-

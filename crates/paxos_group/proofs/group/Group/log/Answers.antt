@@ -1,5 +1,5 @@
-use Rattle.std.proofs.Common.{◌≡◌, ℕ, ◌<◌, length, subst}
-use Rattle.paxos_group.specs.Settling.{Settling, IsSettled}
+use Rattle.std.proofs.Common.{ℕ, ◌<◌, length, subst}
+use Rattle.paxos_group.specs.Settling.{IsSettled}
 use Rattle.paxos_group.proofs.Groups.{settled}
 use Rattle.paxos_group.proofs.group.Group.log.Goals as goal
 

@@ -17,6 +17,7 @@ returns g c =
     let old = scene w.bad w.to_come w.silent c.args.weather.now c.args.self.now c.args.proposer.now in
     let new = scene w.bad w.to_come w.silent c.send_all.new.weather c.send_all.new.self c.send_all.new.proposer in
     record {
+      endures = c.send_all.ensures.endures;
       goes = ask_goes c.args.index c.args.ballot old new c.send_all.ensures.goes;
       promised = elim c.in-Promised.is [
         | inl e ↦ promised_means c.send_all.new.proposer Promised (sym c.stage.ensures ∙ e) (λ k. let clash : Promised ≡ Waiting = k in cc)

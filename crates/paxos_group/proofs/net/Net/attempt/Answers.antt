@@ -1,4 +1,3 @@
-use Rattle.std.proofs.Common.{◌≡◌, sym, ◌∙◌}
 use Rattle.paxos_group.specs.Scene.{scene}
 use Rattle.paxos_group.proofs.Going.{ok_map}
 use Rattle.paxos_group.proofs.Doubt.{both_calm, later_doubts, early_doubts, if_err_map}

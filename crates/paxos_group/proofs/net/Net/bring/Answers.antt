@@ -1,7 +1,7 @@
-use Rattle.std.proofs.Common.{◌≡◌, inl, sym, ◌∙◌}
-use Rattle.std.specs.Prelude.{Some, ⊤}
+use Rattle.std.proofs.Common.{sym, ◌∙◌}
+use Rattle.std.specs.Prelude.{⊤}
 use Rattle.paxos_group.specs.Scene.{scene, kept_at, number_at}
-use Rattle.paxos_group.specs.Sound.{IsSent, IsNotLost}
+use Rattle.paxos_group.specs.Sound.{IsSent}
 use Rattle.paxos_group.proofs.Going.{kept_goes, moved_goes, goes-weaken, bring_goes, bring_reaches, ok_map}
 use Rattle.paxos_group.proofs.net.Net.bring.Goals as goal
 

@@ -1,5 +1,3 @@
-use Rattle.std.proofs.Common.{◌≡◌}
-use Rattle.std.specs.Prelude.{⊤}
 use Rattle.paxos_group.specs.Scene.{scene}
 use Rattle.paxos_group.proofs.Going.{stray_goes, told_goes}
 use Rattle.paxos_group.proofs.net.Net.let_stray.Goals as goal

@@ -19,6 +19,7 @@ returns g c =
     let value = c.in-Ok.ensures ∙ c.value.ensures in
     let goes = put_goes c.args.index c.args.ballot c.in-Ok.value old new value c.send_all.ensures.goes in
     record {
+      endures = c.send_all.ensures.endures;
       goes = goes;
       chosen = tt;
       calm = tt;

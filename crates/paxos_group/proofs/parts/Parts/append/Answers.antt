@@ -29,4 +29,3 @@ returns-clause-still g c =
     let w = g.W.Weather in
     subst (λ net. OnOk c.append_after.result.own ((n : ℕ) → IsStill (slab_len net.held) (w.to_come c.args.weather.now) (8 * c.args.self.now.replicas + n) → IsStill (slab_len c.append_after.new.self.net.held) (w.to_come c.append_after.new.weather) n)) (same_net c.prepare.new.self c.args.self.now c.prepare.ensures.others)
     (subst (λ r. OnOk c.append_after.result.own ((n : ℕ) → IsStill (slab_len c.prepare.new.self.net.held) (w.to_come c.args.weather.now) (8 * r + n) → IsStill (slab_len c.append_after.new.self.net.held) (w.to_come c.append_after.new.weather) n)) (same_replicas c.prepare.new.self c.args.self.now c.prepare.ensures.others) c.append_after.ensures.still)
-

@@ -1,4 +1,4 @@
-use Rattle.std.proofs.Common.{◌+◌, ◌*◌, ◌≤◌, arith}
+use Rattle.std.proofs.Common.{◌+◌, ◌*◌, arith}
 use Rattle.slab.specs.Slab.{slab_len}
 use Rattle.paxos_group.proofs.Stillness.{still_less, still_split}
 use Rattle.paxos_group.proofs.parts.Parts.append_alone.Goals as goal

@@ -1,5 +1,4 @@
-use Rattle.std.proofs.Common.{◌≡◌, ◌+◌, ◌*◌, ◌∷◌, [], ◌++◌, length, refl, sym, ◌∙◌, subst, ap}
-use Rattle.slab.specs.Slab.{slab_len}
+use Rattle.std.proofs.Common.{◌≡◌, ◌+◌, ◌*◌, length, refl, sym, subst}
 use Rattle.outside.specs.Count.{Rose}
 use Rattle.paxos_core.specs.Majority.{IsMajority}
 use Rattle.std.specs.Prelude.{None}
@@ -86,4 +85,3 @@ returns-in-Err-clause-same_silence g c =
     let b = begin old c.args.self.now.net c.args.self.now.replicas c.args.self.now.log.items c.args.own c.args.self.now.round c.requires.formed refl refl refl refl c.requires.proposer in
     let goes : Goes (IsAt (length c.args.self.now.log.items) (ballot_of c.args.self.now.round)) old new = subst (λ i. Goes (IsAt i (ballot_of c.args.self.now.round)) old new) c.next_index-index.ensures c.attempt.ensures.goes in
     λ r k. subst (λ store. w.silent c.attempt.new.weather store r k ≡ w.silent c.args.weather.now c.args.self.now.net.store r k) goes.store (same_silence b.0 old new c.args.self.now.replicas c.args.self.now.log.items c.args.own c.args.self.now.round b.1 goes r k)
-
