@@ -1,6 +1,6 @@
 -- A group as contracts see it.
 use Rattle.std.proofs.Common.{◌≡◌, ℕ, zero, suc, ◌+◌, ◌*◌, ◌<◌, ◌≤◌, Bool, true, false, cond, List, [], ◌∷◌, ◌++◌, length, ◌⊎◌, inl, inr, arith, subst, refl, sym, ◌∙◌, ap, length-append, ◌^◌}
-use Rattle.std.specs.Prelude.{slice_get, map, option_map, Option, Some, None, is_some, nat_lt, slice_index_or}
+use Rattle.std.specs.Prelude.{slice_get, map, option_map, Option, Some, None, is_some, Result, Ok, Err, OnErr, nat_lt, slice_index_or}
 use Rattle.std.specs.List.{count_by}
 use Rattle.std.proofs.lemmas.Bool.Decides.{nat_tests}
 use Rattle.std.proofs.lemmas.List.Sums.{sum_by-cons}
@@ -17,6 +17,10 @@ use Rattle.paxos_group.specs.Scene.{kept_by, kept_at, number_by, number_at}
 use Rattle.paxos_group.specs.Sound.{Attempt, ballot_of, Keeps, StandingOk, IsProposed}
 use Rattle.paxos_group.specs.Steps.{IsGroupSize}
 use Rattle.paxos_group.specs.Formed.{IsFormed, list_of}
+use Rattle.paxos_group.specs.declared.fault.GroupFault.{GroupFault}
+use Rattle.paxos_group.specs.declared.fault.Appended.{Appended}
+use Rattle.paxos_group.specs.declared.parts.Parts.{Parts}
+use Rattle.paxos_group.specs.Ledger.{Leaves, ledger_of}
 use Rattle.paxos_group.specs.Settling.{Settling, IsCount, each_below, accepted_by, row_at, accepted_at, Holds, IsSettled}
 
 pub none_not_some : {X : Type 0} (o : Option X) (v : X) → o ≡ None → o ≡ Some v → ⊥
@@ -226,3 +230,23 @@ module _ {V : Type 0} where
         commands = refl;
         within = subst (λ slots. count_by is_some slots ≤ MOST_HELD) (sym empty) (omega arith);
       }
+
+  abbrev pub seen_of : Parts V → Settling V
+  seen_of parts = seen parts.replicas parts.net parts.log.items parts.pending parts.round
+
+  -- nothing was asked: the group is as it was
+  pub same_seen : (old new : Parts V) (command : V) (a : Appended) (own : Result (Unit {0}) GroupFault) → Leaves own a.doubted (ledger_of old) (ledger_of new) command a →
+      OnErr own (a.doubted ≡ false → new.net ≡ old.net) → new.replicas ≡ old.replicas → OnErr own (a.doubted ≡ false → seen_of new ≡ seen_of old)
+  same_seen old new command a (Ok v) leaves net replicas = net
+  same_seen old new command a (Err f) leaves net replicas = λ is.
+      let unasked : Leaves (Err f) false (ledger_of old) (ledger_of new) command a = subst (λ d. Leaves (Err f) d (ledger_of old) (ledger_of new) command a) is leaves in
+      let same = unasked.same in
+      let nets = net is in
+      let log : new.log.items ≡ old.log.items = ap (λ l. l.log) same in
+      let pending : new.pending ≡ old.pending = ap (λ l. l.pending) same in
+      let round : new.round ≡ old.round = ap (λ l. l.round) same in
+      ap (λ r. seen r new.net new.log.items new.pending new.round) replicas
+      ∙ ap (λ n. seen old.replicas n new.log.items new.pending new.round) nets
+      ∙ ap (λ l. seen old.replicas old.net l new.pending new.round) log
+      ∙ ap (λ p. seen old.replicas old.net old.log.items p new.round) pending
+      ∙ ap (λ k. seen old.replicas old.net old.log.items old.pending k) round

@@ -117,6 +117,7 @@ impl<V: Copies> Group<V> {
         ensures ok { OnOk result.own (IsSettledNow (ledger self.old) (ledger self.new) command.now result) }
         ensures in_doubt { IsTrue result.doubted → InDoubt result.late (ledger self.old) (ledger self.new) command.now }
         ensures unasked { OnErr result.own (result.doubted ≡ false → IsUnasked (ledger self.old) (ledger self.new) result) }
+        ensures untouched { OnErr result.own (result.doubted ≡ false → self.new ≡ self.old) }
         ensures doubt_is_doubted { IfErr result.own (λ fault. fault ≡ GroupFault.Doubt → result.doubted ≡ true) }
         ensures replicas { self.new.replicas ≡ self.old.replicas }
         ensures store { self.new.store ≡ self.old.store }

@@ -130,6 +130,7 @@ impl<V: Copies> Parts<V> {
         ensures endures { Endures (W.bad weather.old) (W.bad weather.new) (W.silent weather.old) (W.silent weather.new) }
         ensures formed { IsFormed self.new.replicas self.new.net self.new.log.items self.new.pending self.new.round }
         ensures leaves { Leaves result.own result.doubted (record { log = self.old.log.items; pending = None; round = self.old.round }) (ledger_of self.new) own result }
+        ensures asked { OnErr result.own (result.doubted ≡ true) }
         ensures replicas { self.new.replicas ≡ self.old.replicas }
         ensures store { self.new.net.store ≡ self.old.net.store }
         ensures heard { OnOk result.own (IsMajority self.old.replicas (λ r. is_heard (W.silent weather.old) self.old.net.store r ≡ true)) }
@@ -170,6 +171,7 @@ impl<V: Copies> Parts<V> {
         ensures endures { Endures (W.bad weather.old) (W.bad weather.new) (W.silent weather.old) (W.silent weather.new) }
         ensures formed { IsFormed self.new.replicas self.new.net self.new.log.items self.new.pending self.new.round }
         ensures leaves { Leaves result.own result.doubted (record { log = self.old.log.items; pending = Some pending; round = self.old.round }) (ledger_of self.new) own result }
+        ensures asked { OnErr result.own (result.doubted ≡ true) }
         ensures replicas { self.new.replicas ≡ self.old.replicas }
         ensures store { self.new.net.store ≡ self.old.net.store }
         ensures heard { OnOk result.own (IsMajority self.old.replicas (λ r. is_heard (W.silent weather.old) self.old.net.store r ≡ true)) }
@@ -240,6 +242,7 @@ impl<V: Copies> Parts<V> {
         ensures endures { Endures (W.bad weather.old) (W.bad weather.new) (W.silent weather.old) (W.silent weather.new) }
         ensures formed { IsFormed self.new.replicas self.new.net self.new.log.items self.new.pending self.new.round }
         ensures leaves { Leaves result.own result.doubted (ledger_of self.old) (ledger_of self.new) command.now result }
+        ensures untouched { OnErr result.own (result.doubted ≡ false → self.new.net ≡ self.old.net) }
         ensures replicas { self.new.replicas ≡ self.old.replicas }
         ensures store { self.new.net.store ≡ self.old.net.store }
         ensures heard { OnOk result.own (IsMajority self.old.replicas (λ r. is_heard (W.silent weather.old) self.old.net.store r ≡ true)) }
