@@ -100,7 +100,7 @@ impl<V: Copies> Proposer<V> {
     }
 
     /// How far the proposal is.
-    fn stage(&self) -> Stage
+    pub fn stage(&self) -> Stage
         ensures { result ≡ stage_of self.now }
     {
         if !is_majority(&self.heard) {
