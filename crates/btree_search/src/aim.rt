@@ -2,7 +2,7 @@
 
 /// Which places a search is for, beside a key and a birth.
 #[derive(Clone, Copy)]
-pub(crate) enum Aim {
+pub enum Aim {
     /// The places at or after the key and the birth.
     AtOrAfter,
     /// The places after them.

@@ -1,7 +1,7 @@
 //! Search in one page.
 
 ghost use Rattle.std.specs.Prelude.{◌≡◌, ◌<◌, length, slice_get};
-ghost use Rattle.btree_search.specs.declared.aim.Aim.TheVariants.{AtOrAfter};
+ghost use Rattle.btree_search.specs.declared.aim.Aim.TheVariants.{AtOrAfter, After};
 ghost use Rattle.btree_page.specs.Content.{Entry};
 ghost use Rattle.btree_search.specs.Find.{BeginsAt, seeks};
 
@@ -14,6 +14,14 @@ pub fn find_in(view: &PageView<'_>, key: &[u8], birth: u64) -> usize
     ensures { BeginsAt AtOrAfter (record { key = key.now; birth = birth }) view.now.cells result }
 {
     first_sought(view, Aim::AtOrAfter, key, birth)
+}
+
+/// How many cells of a page lie at or below a key and a birth, so that in an inner page the one
+/// before this index leads to the child into whose range they fall. It takes no memory.
+pub fn find_past(view: &PageView<'_>, key: &[u8], birth: u64) -> usize
+    ensures { BeginsAt After (record { key = key.now; birth = birth }) view.now.cells result }
+{
+    first_sought(view, Aim::After, key, birth)
 }
 
 /// How many cells of a page come before those that are sought, by halving.

@@ -1,19 +1,22 @@
 //! Search in a tree of versioned records that lies in pages.
 //!
 //! It promises the least record at or after, or after, a key and a birth: [`seek`] and [`next`] of
-//! the tree that any pages make which agree with what was read, and [`find_in`] in one page. On
+//! the tree that any pages make which agree with what was read, and [`find_in`] and [`find_past`] in
+//! one page. [`load`], [`view_of`] and [`child_at`] are the steps of every walk. On
 //! pages that make no tree they end too, and give up at the latest where they see it.
 //! It stands on `btree_page` and `pair_types`.
 #![tactic(auto)]
 
 mod aim;
 mod find;
-mod load;
 mod search;
+mod steps;
 mod walk;
 
-pub use find::find_in;
+pub use aim::Aim;
+pub use find::{find_in, find_past};
 pub use search::{next, seek};
+pub use steps::{child_at, load, view_of};
 
 #[cfg(test)]
 mod tests;

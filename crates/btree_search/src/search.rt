@@ -5,7 +5,7 @@ ghost use Rattle.btree_search.specs.declared.aim.Aim.TheVariants.{AtOrAfter, Aft
 ghost use Rattle.btree_search.specs.Found.{IsFoundIn, HasNoTree, OnlyReads, HasCause};
 
 use crate::aim::Aim;
-use crate::load::{load, view_of};
+use crate::steps::{load, view_of};
 use crate::walk::walk;
 use pair_types::{Pages, PairFault, Quad, Slot};
 use std::alloc::Global;

@@ -7,7 +7,7 @@ ghost use Rattle.btree_search.specs.Walk.{IsFirst, IsLeafFault, Walks};
 
 use crate::aim::Aim;
 use crate::find::first_sought;
-use crate::load::{load_child, view_of};
+use crate::steps::{load_child, view_of};
 use btree_page::{Cell, PageView};
 use nfs3_types::NoMemory;
 use pair_types::{Key, Pages, PairFault, Quad, Value};

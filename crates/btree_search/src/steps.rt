@@ -11,8 +11,8 @@ ghost use Rattle.btree_search.specs.Walk.{IsShown, LeadsAt, HasNoChild, IsChildP
 use btree_page::{Cell, PageView};
 use pair_types::{Page, Pages, PairFault, Slot};
 
-/// The page in a slot, which shares the bytes.
-pub(crate) fn load<G: Pages>(pages: &mut G, slot: Slot) -> Result<Page, PairFault>
+/// The page in a slot, which shares the bytes. It writes nothing.
+pub fn load<G: Pages>(pages: &mut G, slot: Slot) -> Result<Page, PairFault>
     ensures page { IfOk result (λ page. Reads (G.state pages.old) (G.state pages.new) slot page) }
     ensures only_reads { OnlyReads (G.state pages.old) (G.state pages.new) }
     ensures fault { IfErr result (λ fault. HasCause (G.state pages.old) (G.state pages.new) ⊥ fault) }
@@ -23,8 +23,8 @@ pub(crate) fn load<G: Pages>(pages: &mut G, slot: Slot) -> Result<Page, PairFaul
     }
 }
 
-/// A view of a page of a level within these bounds, or `Odd`.
-pub(crate) fn view_of(page: &Page, least: u32, most: u32) -> Result<PageView<'_>, PairFault>
+/// A view of a page of a level within these bounds, or `Odd` where there is none.
+pub fn view_of(page: &Page, least: u32, most: u32) -> Result<PageView<'_>, PairFault>
     ensures shown { IfOk result (λ view. IsShown least most page.now view) }
     ensures odd { IfErr result (λ fault. fault ≡ Odd) }
     ensures not_shown { IfErr result (λ fault. (content : Content) → IsShown least most page.now content → ⊥) }
@@ -40,7 +40,7 @@ pub(crate) fn view_of(page: &Page, least: u32, most: u32) -> Result<PageView<'_>
 }
 
 /// The child to which a cell leads, or `Odd` where it leads to none.
-pub(crate) fn child_at(view: &PageView<'_>, i: usize) -> Result<Slot, PairFault>
+pub fn child_at(view: &PageView<'_>, i: usize) -> Result<Slot, PairFault>
     ensures child { IfOk result (λ child. LeadsAt view.now.cells i child) }
     ensures odd { IfErr result (λ fault. fault ≡ Odd) }
     ensures not_there { IfErr result (λ fault. (child : Slot) → LeadsAt view.now.cells i child → ⊥) }

@@ -1,0 +1,55 @@
+-- What an edit does to every tree that agrees with what was read.
+use Rattle.std.specs.Prelude.{ℕ, ◌≡◌, ◌⊎◌, ◌≤◌, List, length, Option, Some, None}
+use Rattle.pair_types.specs.declared.slot.Slot.{Slot}
+use Rattle.pair_types.specs.declared.quad.Quad.{Quad}
+use Rattle.pair_types.specs.PageMaps.{PageMap, Agrees, Extends, over, latest}
+use Rattle.pair_types.specs.PageState.{PageState, Lasts}
+use Rattle.btree_page.specs.Content.{Bound, Content, Spells}
+use Rattle.btree_page.specs.Tree.{Among, root, IsFormed}
+use Rattle.btree_edit.specs.Edits.{Lacks}
+
+-- which slots may come to a tree: none, or absent ones of one store
+abbrev pub IsOpen : Option ℕ → PageMap → Slot → Type 0
+IsOpen None p s = ⊥
+IsOpen (Some store) p s = (p s ≡ None) × (s.store ≡ store)
+
+-- an edit of a part of a tree that reached the slots before and reaches those after: it takes no
+-- slot but open ones, and changes no page but those of the tree
+pub record Frame (store : Option ℕ) (p q : PageMap) (before after : List Slot) : Type 0 where
+  pub within : (s : Slot) → Among s after → Among s before ⊎ IsOpen store p s
+  pub others : (s : Slot) → (Among s before → ⊥) → (Among s after → ⊥) → q s ≡ p s
+
+-- the tree of these records, which reached these slots, is a tree of edited ones
+pub record EditsTree (Edit : List Quad → List Quad → Type 0) (store : Option ℕ) (stores : ℕ) (p q : PageMap) (quads : List Quad) (slots : List Slot) : Type 0 where
+  pub after : List Quad
+  pub reached : List Slot
+  pub edit : Edit quads after
+  pub formed : IsFormed stores q after reached
+  pub frame : Frame store p q slots reached
+
+-- it is so in every tree over pages that agree with what is read, under what was written before
+abbrev pub EditsIn : (List Quad → List Quad → Type 0) → Option ℕ → PageState → PageState → Type 0
+EditsIn Edit store old new = (under : PageMap) → Agrees new.reads under → (quads : List Quad) (slots : List Slot)
+    → IsFormed new.stores (over old.writes under) quads slots
+    → EditsTree Edit store new.stores (over old.writes under) (over new.writes under) quads slots
+
+-- no such tree has a record at this key and birth, and nothing was written
+pub record LacksIn (pair : Bound) (old new : PageState) : Type 0 where
+  pub writes : new.writes ≡ old.writes
+  pub lacks : (under : PageMap) → Agrees new.reads under → (quads : List Quad) (slots : List Slot)
+      → IsFormed new.stores (over old.writes under) quads slots → Lacks pair quads
+
+-- no pages that agree with what is read, under what was written before, were a tree
+abbrev pub HadNoTree : PageState → PageState → Type 0
+HadNoTree old new = (under : PageMap) → Agrees new.reads under → (quads : List Quad) (slots : List Slot)
+    → IsFormed new.stores (over old.writes under) quads slots → ⊥
+
+-- what every edit leaves: what was read before is still known
+pub record GoesOn (old new : PageState) : Type 0 where
+  pub lasts : Lasts old new
+  pub extends : Extends old.reads new.reads
+
+-- the root page, as it read before and reads now, keeps its level, and has no cell more
+abbrev pub RootStays : PageState → PageState → Type 0
+RootStays old new = (before after : Content) → Spells before (latest old.writes new.reads root) → Spells after (latest new.writes new.reads root)
+    → (after.level ≡ before.level) × (length after.cells ≤ length before.cells)
