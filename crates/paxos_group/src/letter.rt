@@ -4,9 +4,9 @@ ghost use Rattle.std.specs.Prelude.{◌≡◌, IfOk};
 ghost use Rattle.paxos_group.specs.Letters.{kind_of, name_of, is_to_replica};
 ghost use Rattle.paxos_group.specs.Steps.{Met, Endures};
 
-use nfs3_types::NoMemory;
+use nfs3_types::{Copies, NoMemory};
 use outside::{Fate, MessageKind, MessageName, Weather};
-use paxos_core::{Ballot, Copies, Message};
+use paxos_core::{Ballot, Message};
 use std::alloc::Global;
 
 /// A message under way, to this replica or from it.

@@ -14,7 +14,6 @@ mod parts;
 
 pub use fault::{Appended, GroupFault};
 pub use group::Group;
-pub use paxos_core::Copies;
 
 #[cfg(test)]
 mod tests;

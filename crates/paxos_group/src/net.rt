@@ -12,9 +12,9 @@ ghost use Rattle.paxos_group.specs.Steps.{Came, IsAwaited, IsCounted, Goes, Tell
 
 use crate::fault::GroupFault;
 use crate::letter::{Letter, copy_of, fate_of, is_for_replica};
-use nfs3_types::NoMemory;
+use nfs3_types::{Copies, NoMemory};
 use outside::{Fate, Weather};
-use paxos_core::{Acceptor, Ballot, Copies, Message, Proposer, Stage};
+use paxos_core::{Acceptor, Ballot, Message, Proposer, Stage};
 use slab::Slab;
 use std::alloc::Global;
 

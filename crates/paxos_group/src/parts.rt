@@ -16,9 +16,9 @@ ghost use Rattle.paxos_group.specs.declared.fault.GroupFault.{GroupFault};
 
 use crate::fault::{Appended, GroupFault};
 use crate::net::Net;
-use nfs3_types::NoMemory;
+use nfs3_types::{Copies, NoMemory};
 use outside::Weather;
-use paxos_core::{Ballot, Copies, Proposer};
+use paxos_core::{Ballot, Proposer};
 use std::alloc::Global;
 
 /// The answer where memory ran out before the first message: nothing changed.

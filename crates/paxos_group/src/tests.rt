@@ -2,7 +2,7 @@ ghost use Rattle.std.specs.Prelude.{◌≡◌, ℕ, Some, false};
 ghost use Rattle.outside.specs.BadFates.{counts_at};
 
 use super::*;
-use nfs3_types::NoMemory;
+use nfs3_types::{Copies, NoMemory};
 use outside::{Calm, Fate, ListWeather, LostReplicas, MessageName, Weather};
 use std::alloc::Global;
 use std::test::*;
