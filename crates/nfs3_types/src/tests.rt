@@ -32,39 +32,11 @@ fn a_handle_is_the_24_bytes_of_its_numbers(rt: HostRuntime) -> Result<(), Fail> 
     Ok(())
 }
 
-const SATTR: Sattr = Sattr {
-    mode: Some(0o644),
-    uid: None,
-    gid: Some(7),
-    size: None,
-    atime: SetTime::ServerTime,
-    mtime: SetTime::ClientTime(Moment {
-        seconds: 3,
-        nanos: 4,
-    }),
-};
-
 fn place() -> DirOp<TextRef<'static>> {
     DirOp {
         directory: TextRef::new(b"directory"),
         name: TextRef::new(b"name"),
     }
-}
-
-#[test]
-fn an_owned_call_is_lent_as_it_was(rt: HostRuntime) -> Result<(), Fail> {
-    let lent = CallOver::Symlink(SymlinkArgs {
-        place: place(),
-        attributes: SATTR,
-        target: TextRef::new(b"target"),
-    });
-    let own = own_call(rt.alloc(), &lent)?;
-    assert_eq!(rt; own.procedure(), 10);
-    assert_eq!(rt;
-        format!(in rt.alloc(); "{:?}", own.lend())?.as_str(),
-        format!(in rt.alloc(); "{lent:?}")?.as_str()
-    );
-    Ok(())
 }
 
 fn listed(alloc: Global) -> Result<Body, Fail> {
@@ -91,6 +63,7 @@ fn listed(alloc: Global) -> Result<Body, Fail> {
     }))
 }
 
+/// A copy owns its call anew, from the call that the entry lends.
 #[test]
 fn an_entry_is_copied_whole(rt: HostRuntime) -> Result<(), Fail> {
     let entry = Entry {
@@ -114,6 +87,7 @@ fn an_entry_is_copied_whole(rt: HostRuntime) -> Result<(), Fail> {
         },
     };
     let copy = entry.copy(rt.alloc())?;
+    assert_eq!(rt; copy.call.procedure(), 12);
     assert_eq!(rt;
         format!(in rt.alloc(); "{copy:?}")?.as_str(),
         format!(in rt.alloc(); "{entry:?}")?.as_str()
