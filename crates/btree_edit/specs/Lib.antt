@@ -1,3 +1,5 @@
 pub mod Below
+pub mod Changes
 pub mod Edited
 pub mod Edits
+pub mod Made

@@ -5,7 +5,9 @@ ghost use Rattle.btree_search.specs.Found.{HasCause};
 ghost use Rattle.btree_edit.specs.Edits.{bound_at, Removes};
 ghost use Rattle.btree_edit.specs.Edited.{GoesOn, EditsIn, LacksIn, RootStays, HadNoTree};
 
-use crate::below::{Edited, edit_below};
+use crate::below::edit_below;
+use crate::change::Change;
+use crate::outcome::Edited;
 use btree_search::{load, view_of};
 use pair_types::{Pages, PairFault, Slot};
 use std::alloc::Global;
@@ -49,9 +51,10 @@ pub fn remove<G: Pages>(
         Ok(view) => view,
         Err(fault) => return Err(fault),
     };
-    match edit_below(alloc, pages, &view, key, birth) {
+    match edit_below(alloc, pages, &view, &Change::Remove { key, birth }, ROOT.store) {
         Ok(Edited::Missing) => Ok(false),
         Ok(Edited::Below) => Ok(true),
+        Ok(Edited::Two { .. }) => Err(PairFault::Odd),
         Ok(Edited::Page(page)) => match pages.write(ROOT, page) {
             Ok(()) => Ok(true),
             Err(fault) => Err(PairFault::Page(fault)),

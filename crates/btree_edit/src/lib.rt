@@ -8,8 +8,10 @@
 
 mod below;
 mod build;
+mod change;
 mod edit;
 mod leaf;
+mod outcome;
 
 pub use edit::remove;
 
