@@ -31,9 +31,9 @@ use Rattle.btree_edit.specs.declared.change.Change.{Change}
 use Rattle.btree_edit.specs.declared.change.Change.TheVariants.{Remove, Replace, Insert}
 use Rattle.btree_edit.specs.declared.outcome.Edited.{Edited}
 use Rattle.btree_edit.specs.declared.outcome.Edited.TheVariants.{Missing, Below, Page, Two}
-use Rattle.btree_edit.specs.Edits.{bound_at, Lacks, IsLonger}
+use Rattle.btree_edit.specs.Edits.{bound_at, Nothing, Lacks, IsLonger}
 use Rattle.btree_edit.specs.Edited.{IsOpen, Frame, GoesOn}
-use Rattle.btree_edit.specs.Changes.{pair_of, edit_of, given_of, open_of, Nothing, AreMade}
+use Rattle.btree_edit.specs.Changes.{pair_of, edit_of, given_of, open_of, AreMade}
 use Rattle.btree_edit.specs.Below.{Bears, IsMet, Changed, ChangesTo, Parted, IsNotMet, StaysFrom, Grows, Becomes, Divides, IsEdited, EditsBelow, PutsTwo, GaveUp, Grafts, IsNoGraft}
 use Rattle.btree_edit.proofs.Least.{least_first, up_to}
 use Rattle.btree_edit.proofs.Opened.{Seated, closed, bears_keep, kids_present, some_not_none, slot_cases}
@@ -43,7 +43,7 @@ use Rattle.btree_edit.proofs.Divided.{divided}
 use Rattle.btree_edit.proofs.States.{goes_only, goes_then, reads_latest, shown_within, Sought, sought, MetChild, met_child, no_page}
 use Rattle.btree_edit.proofs.Steps.{level_above, stays_up, met_earlier, local_of, partial_of}
 
-bears_present : (q : PageMap) (level : ℕ) (cells : List Entry) (low : Bound) (high : Option Bound) (quads : List Quad) (below : List Slot)
+pub bears_present : (q : PageMap) (level : ℕ) (cells : List Entry) (low : Bound) (high : Option Bound) (quads : List Quad) (below : List Slot)
     → Bears q level cells low high quads below → (s : Slot) → Among s below → IsSome (q s)
 bears_present q zero cells low high quads below h s there = absurd (subst (λ (ss : List Slot). Among s ss) h.nothing there)
 bears_present q (suc level) cells low high quads below h s there = kids_present q level h.rest h.first low high quads below h.kids s there

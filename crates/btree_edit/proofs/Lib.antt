@@ -10,3 +10,4 @@ pub mod Rebuilt
 pub mod Seats
 pub mod States
 pub mod Steps
+pub mod Tops

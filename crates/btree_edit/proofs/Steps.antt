@@ -28,10 +28,10 @@ use Rattle.btree_edit.specs.declared.change.Change.{Change}
 use Rattle.btree_edit.specs.declared.change.Change.TheVariants.{Remove, Replace, Insert}
 use Rattle.btree_edit.specs.declared.outcome.Edited.{Edited}
 use Rattle.btree_edit.specs.declared.outcome.Edited.TheVariants.{Missing, Below, Page, Two}
-use Rattle.btree_edit.specs.Edits.{bound_at, Lacks, Removes, Replaces, Inserts, IsLonger}
+use Rattle.btree_edit.specs.Edits.{bound_at, Nothing, Lacks, Removes, Replaces, Inserts, IsLonger}
 use Rattle.btree_edit.specs.Edited.{IsOpen, Frame, GoesOn}
 use Rattle.btree_edit.specs.Made.{size, IsNearly, IsSplit, IsMadeOf}
-use Rattle.btree_edit.specs.Changes.{pair_of, edit_of, given_of, open_of, Nothing, AreMade, Answers, cells_edit, misses_of, refusal_of, EditsLeaf}
+use Rattle.btree_edit.specs.Changes.{pair_of, edit_of, given_of, open_of, AreMade, Answers, cells_edit, misses_of, refusal_of, EditsLeaf}
 use Rattle.btree_edit.specs.Below.{Bears, BearsRecords, IsMet, Changed, ChangesTo, LacksBelow, IsNotMet, StaysFrom, Grows, Becomes, Divides, IsEdited, EditsBelow}
 use Rattle.btree_edit.proofs.Lists.{at_place, map_remove, there}
 use Rattle.btree_edit.proofs.Opened.{slot_cases}

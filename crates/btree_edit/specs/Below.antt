@@ -18,10 +18,10 @@ use Rattle.btree_edit.specs.declared.change.Change.{Change}
 use Rattle.btree_edit.specs.declared.change.Change.TheVariants.{Remove, Replace, Insert}
 use Rattle.btree_edit.specs.declared.outcome.Edited.{Edited}
 use Rattle.btree_edit.specs.declared.outcome.Edited.TheVariants.{Missing, Below, Page, Two}
-use Rattle.btree_edit.specs.Edits.{bound_at, Lacks, IsLonger}
+use Rattle.btree_edit.specs.Edits.{bound_at, Nothing, Lacks, IsLonger}
 use Rattle.btree_edit.specs.Edited.{Frame, GoesOn}
 use Rattle.btree_edit.specs.Made.{IsNearly, IsMadeOf}
-use Rattle.btree_edit.specs.Changes.{pair_of, edit_of, given_of, open_of, Nothing, AreMade}
+use Rattle.btree_edit.specs.Changes.{pair_of, edit_of, given_of, open_of, AreMade}
 
 -- ---- what lies below a page
 

@@ -11,7 +11,7 @@ use Rattle.btree_edit.specs.declared.change.Change.{Change}
 use Rattle.btree_edit.specs.declared.change.Change.TheVariants.{Remove, Replace, Insert}
 use Rattle.btree_edit.specs.declared.outcome.Edited.{Edited}
 use Rattle.btree_edit.specs.declared.outcome.Edited.TheVariants.{Missing, Below, Page, Two}
-use Rattle.btree_edit.specs.Edits.{bound_at, Lacks, IsRecord, Removes, Replaces, Inserts}
+use Rattle.btree_edit.specs.Edits.{bound_at, Nothing, Lacks, IsRecord, Removes, Replaces, Inserts}
 use Rattle.btree_edit.specs.Made.{size, IsNearly, IsMadeOf}
 
 -- where it edits
@@ -25,10 +25,6 @@ abbrev pub edit_of : Change → List Quad → List Quad → Type 0
 edit_of (Remove key birth) = Removes (bound_at key.now birth)
 edit_of (Replace q) = Replaces q.now
 edit_of (Insert q) = Inserts q.now
-
--- nothing is given
-abbrev pub Nothing : List Quad → Type 0
-Nothing quads = Unit {0}
 
 -- what is given of the list
 abbrev pub given_of : Change → List Quad → Type 0

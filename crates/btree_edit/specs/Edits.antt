@@ -8,6 +8,10 @@ use Rattle.btree_page.specs.Tree.{quad_bound}
 abbrev pub bound_at : List ℕ → ℕ → Bound
 bound_at key birth = record { key = key; birth = birth }
 
+-- nothing is said of the records
+abbrev pub Nothing : List Quad → Type 0
+Nothing quads = Unit {0}
+
 -- no record stands at this key and birth
 abbrev pub Lacks : Bound → List Quad → Type 0
 Lacks pair quads = All (λ r. quad_bound r ≢ pair) quads

@@ -3,3 +3,4 @@ pub mod Changes
 pub mod Edited
 pub mod Edits
 pub mod Made
+pub mod Roots
