@@ -1,25 +1,24 @@
 -- A page with edited records that is divided into two.
-use Rattle.std.proofs.Common.{◌≡◌, ◌≢◌, ◌⊎◌, ⊎_elim, inl, inr, ℕ, zero, suc, ◌+◌, ◌-◌, ◌*◌, ◌<◌, ◌≤◌, Bool, true, false, List, [], ◌∷◌, ◌++◌, map, length, take, drop, Option, Some, None, refl, sym, ap, subst, ◌∙◌, arith, append_assoc}
+use Rattle.std.proofs.Common.{◌≡◌, ◌≢◌, ⊎_elim, ℕ, zero, suc, ◌+◌, ◌-◌, ◌<◌, ◌≤◌, Bool, true, false, List, [], ◌∷◌, ◌++◌, map, length, take, drop, Option, Some, None, refl, sym, ap, subst, ◌∙◌, arith, append_assoc}
 use Rattle.std.specs.Prelude.{◌==◌, slice_get}
 use Rattle.std.proofs.lemmas.Bool.{cases_lt}
 use Rattle.std.proofs.lemmas.List.{take-append-drop, length-map, length-take-le}
 use Rattle.std.proofs.lemmas.Cmp.{tied_itself}
-use Rattle.std.specs.declared.cmp.Ordering.{Ordering}
-use Rattle.std.specs.declared.cmp.Ordering.TheVariants.{Less, Equal, Greater}
+use Rattle.std.specs.declared.cmp.Ordering.TheVariants.{Equal, Greater}
 use Rattle.pair_types.specs.declared.slot.Slot.{Slot}
 use Rattle.pair_types.specs.declared.quad.Quad.{Quad}
 use Rattle.pair_types.specs.PageMaps.{PageMap, over}
 use Rattle.pair_types.specs.PageState.{PageState}
-use Rattle.btree_page.specs.Content.{Bound, bound_cmp, IsBelow, Entry, Content, Spells, bound_of, Fits, AreCells, IsPage, inner_entry}
+use Rattle.btree_page.specs.Content.{Bound, bound_cmp, IsBelow, Entry, Content, bound_of, AreCells, inner_entry}
 use Rattle.btree_page.specs.Tree.{IsIn, AllIn, Among, quad_bound, quad_cell, Child, child_cell, Kids, Subtree, least}
 use Rattle.btree_page.proofs.Trees.{among_left, among_right, among_either}
 use Rattle.btree_search.proofs.Order.{bound_total, cells_rise}
 use Rattle.btree_search.proofs.Ranges.{is_inner}
 use Rattle.btree_edit.specs.declared.change.Change.{Change}
-use Rattle.btree_edit.specs.Edited.{IsOpen, Frame}
+use Rattle.btree_edit.specs.Edited.{Frame}
 use Rattle.btree_edit.specs.Made.{size, behind, IsNearly, IsSplit}
 use Rattle.btree_edit.specs.Changes.{pair_of, edit_of, given_of, open_of}
-use Rattle.btree_edit.specs.Below.{Bears, BearsRecords, BearsKids, Changed, ChangesTo, Parted, PartsTo, Grows, Divides}
+use Rattle.btree_edit.specs.Below.{BearsRecords, BearsKids, Changed, ChangesTo, Parted, Grows, Divides}
 use Rattle.btree_edit.proofs.Least.{up_to, less_not_greater}
 use Rattle.btree_edit.proofs.Lists.{at_place}
 use Rattle.btree_edit.proofs.Parting.{small_cells, map_take, map_drop, above_least, drop_there}

@@ -1,46 +1,44 @@
 -- A child that was divided, and its second part as a child more of its parent.
-use Rattle.std.proofs.Common.{◌≡◌, ◌≢◌, ◌⊎◌, unwrap_or, ⊎_elim, inl, inr, ℕ, zero, suc, ◌-◌, ◌+◌, ◌<◌, ◌≤◌, Bool, true, false, List, [], ◌∷◌, ◌++◌, map, length, take, drop, Option, Some, None, IsSome, Ok, Err, Result, refl, sym, ap, subst, ◌∙◌, arith, add-one}
-use Rattle.std.specs.Prelude.{All, slice_get, MatchResult}
+use Rattle.std.proofs.Common.{◌≡◌, ◌≢◌, ◌⊎◌, unwrap_or, ⊎_elim, inl, inr, ℕ, zero, suc, ◌-◌, ◌+◌, ◌<◌, ◌≤◌, true, false, List, [], ◌∷◌, ◌++◌, map, length, take, drop, Option, Some, None, IsSome, Ok, Err, Result, refl, sym, ap, subst, ◌∙◌, arith, add-one}
+use Rattle.std.specs.Prelude.{slice_get, MatchResult}
 use Rattle.std.specs.List.{insert}
 use Rattle.std.proofs.lemmas.Bool.{cases_lt}
-use Rattle.std.proofs.lemmas.List.{length-map}
 use Rattle.std.proofs.lemmas.List.Edits.{length-insert}
 use Rattle.std.proofs.lemmas.List.Elements.{All-append, All-weaker}
 use Rattle.std.proofs.lemmas.Cmp.{tied_itself}
 use Rattle.std.specs.declared.cmp.Ordering.{Ordering}
-use Rattle.std.specs.declared.cmp.Ordering.TheVariants.{Less, Equal, Greater}
+use Rattle.std.specs.declared.cmp.Ordering.TheVariants.{Less, Greater}
 use Rattle.pair_types.specs.declared.slot.Slot.{Slot}
 use Rattle.pair_types.specs.declared.quad.Quad.{Quad}
 use Rattle.pair_types.specs.declared.fault.PageFault.{PageFault}
 use Rattle.pair_types.specs.declared.fault.PairFault.{PairFault}
 use Rattle.pair_types.specs.declared.fault.PairFault.TheVariants.{Odd, HeightFull, Page as PageGave}
-use Rattle.pair_types.specs.PageMaps.{PageMap, ReadMap, Agrees, Extends, laid, over, latest, page_of}
-use Rattle.pair_types.specs.PageState.{PageState, IsSound, Reads, no_memory}
-use Rattle.btree_page.specs.Content.{Bound, bound_cmp, IsBelow, Entry, Content, Spells, bound_of, AreCells, inner_entry}
-use Rattle.btree_page.specs.Tree.{Holds, IsIn, AllIn, Among, quad_bound, Child, child_cell, Kids, Subtree, least}
+use Rattle.pair_types.specs.PageMaps.{PageMap, Extends, laid, over, latest, page_of}
+use Rattle.pair_types.specs.PageState.{PageState, IsSound, Reads}
+use Rattle.btree_page.specs.Content.{Bound, bound_cmp, Entry, Content, Spells, bound_of, inner_entry}
+use Rattle.btree_page.specs.Tree.{IsIn, AllIn, Among, quad_bound, Child, child_cell, Kids, Subtree}
 use Rattle.btree_page.proofs.Trees.{among_left, among_right, among_either, has_one_content}
 use Rattle.btree_search.specs.declared.aim.Aim.{Aim}
 use Rattle.btree_search.specs.declared.aim.Aim.TheVariants.{AtOrAfter, After}
 use Rattle.btree_search.specs.Aim.{is_sought}
-use Rattle.btree_search.specs.Find.{seeks, BeginsAt}
+use Rattle.btree_search.specs.Find.{BeginsAt}
 use Rattle.btree_search.specs.Found.{OnlyReads, HasCause}
 use Rattle.btree_search.specs.Walk.{InStores, IsShown, LeadsAt}
 use Rattle.btree_search.proofs.Order.{bound_total, turned}
-use Rattle.btree_search.proofs.Walks.{agrees_before}
 use Rattle.btree_edit.specs.declared.change.Change.{Change}
 use Rattle.btree_edit.specs.declared.change.Change.TheVariants.{Remove, Replace, Insert}
 use Rattle.btree_edit.specs.declared.outcome.Edited.{Edited}
 use Rattle.btree_edit.specs.declared.outcome.Edited.TheVariants.{Missing, Below, Page, Two}
 use Rattle.btree_edit.specs.Edits.{bound_at, Nothing, Lacks, IsLonger}
 use Rattle.btree_edit.specs.Edited.{IsOpen, Frame, GoesOn}
-use Rattle.btree_edit.specs.Changes.{pair_of, edit_of, given_of, open_of, AreMade}
-use Rattle.btree_edit.specs.Below.{Bears, IsMet, Changed, ChangesTo, Parted, IsNotMet, StaysFrom, Grows, Becomes, Divides, IsEdited, EditsBelow, PutsTwo, GaveUp, Grafts, IsNoGraft}
+use Rattle.btree_edit.specs.Changes.{pair_of, edit_of, given_of, open_of}
+use Rattle.btree_edit.specs.Below.{Bears, IsMet, Changed, ChangesTo, Parted, IsNotMet, StaysFrom, Grows, Divides, IsEdited, EditsBelow, PutsTwo, GaveUp, Grafts, IsNoGraft}
 use Rattle.btree_edit.proofs.Least.{least_first, up_to}
 use Rattle.btree_edit.proofs.Opened.{Seated, closed, bears_keep, kids_present, some_not_none, slot_cases}
-use Rattle.btree_edit.proofs.Seats.{Seat, from_of, to_of, Falls}
+use Rattle.btree_edit.proofs.Seats.{from_of, to_of}
 use Rattle.btree_edit.proofs.Rebuilt.{not_open, some_held, reseated}
 use Rattle.btree_edit.proofs.Divided.{divided}
-use Rattle.btree_edit.proofs.States.{goes_only, goes_then, reads_latest, shown_within, Sought, sought, MetChild, met_child, no_page}
+use Rattle.btree_edit.proofs.States.{goes_only, goes_then, reads_latest, shown_within, MetChild, met_child, no_page}
 use Rattle.btree_edit.proofs.Steps.{level_above, stays_up, met_earlier, local_of, partial_of}
 
 pub bears_present : (q : PageMap) (level : ℕ) (cells : List Entry) (low : Bound) (high : Option Bound) (quads : List Quad) (below : List Slot)
@@ -293,7 +291,7 @@ graft_changes change store a b c d content below past i slot page left bound rig
     absent missing (open_free change store p fresh b c below w.parts.grows absent w.puts.in_store) left_put right_put front_page back_page others in
     let new : Child = record { bound = bound; slot = fresh } in
     let kids : Kids (Subtree q (content.level - 1)) s.seat.child s.seat.from (new ∷ []) s.seat.to (x.parted.after_left ++ x.parted.after_right)
-        ((s.seat.child ∷ x.parted.reached_left) ++ (fresh ∷ x.parted.reached_right)) = record {
+    ((s.seat.child ∷ x.parted.reached_left) ++ (fresh ∷ x.parted.reached_right)) = record {
       quads_left = x.parted.after_left;
       quads_right = x.parted.after_right;
       slots_left = s.seat.child ∷ x.parted.reached_left;
@@ -360,10 +358,10 @@ graft_place change store a b c d content below past i slot page left bound right
     let s = x.m.sought in
     let within : i < length content.cells = within_cells content.cells i w.leads.cell w.leads.there in
     let low_side : (e : Entry) → slice_get content.cells i ≡ Some e → bound_cmp (bound_of e) bound ≡ Less = λ e there.
-        let up = low_cell i s.rest low s.first [] 0 e (least_first low) (subst (λ (es : List Entry). slice_get es i ≡ Some e) s.children there) in
-        up_to (bound_of e) s.seat.from bound (subst (λ (y : Bound). bound_cmp (bound_of e) y ≢ Greater) (sym s.seat.from_is) up) x.parted.above in
+    let up = low_cell i s.rest low s.first [] 0 e (least_first low) (subst (λ (es : List Entry). slice_get es i ≡ Some e) s.children there) in
+    up_to (bound_of e) s.seat.from bound (subst (λ (y : Bound). bound_cmp (bound_of e) y ≢ Greater) (sym s.seat.from_is) up) x.parted.above in
     let high_side : (e : Entry) → slice_get content.cells (suc i) ≡ Some e → bound_cmp (bound_of e) bound ≡ Greater = λ e there.
-        turned bound (bound_of e) Less (x.parted.inside.to (bound_of e) (s.seat.to_is ∙ high_cell i s.rest high e (subst (λ (es : List Entry). slice_get es (suc i) ≡ Some e) s.children there))) in
+    turned bound (bound_of e) Less (x.parted.inside.to (bound_of e) (s.seat.to_is ∙ high_cell i s.rest high e (subst (λ (es : List Entry). slice_get es (suc i) ≡ Some e) s.children there))) in
     none (λ n h. begins_there AtOrAfter bound content.cells i n within h low_side high_side) (λ n h. begins_there After bound content.cells i n within h low_side high_side)
   where
     within_cells : (es : List Entry) (k : ℕ) (e : Entry) → slice_get es k ≡ Some e → k < length es
@@ -395,17 +393,20 @@ graft_ok : (change : Change) (store : ℕ) (a b c d : PageState) (content below 
     → WasPut change store a b c d content below past i slot page left bound right fresh → Grafts content (i + 1) bound fresh edited → IsEdited change store a d content (Ok edited)
 graft_ok change store a b c d content below past i slot page left bound right fresh Missing w g = absurd g.made
 graft_ok change store a b c d content below past i slot page left bound right fresh Below w g = absurd g.made
-graft_ok change store a b c d content below past i slot page left bound right fresh (Page page') w g =
-    (graft_stays change store a b c d content below past i slot page left bound right fresh w, record {
-      cells = g.cells;
-      spelled = g.made;
-      few = inr (grows_up change store a b c d content below past i slot page left bound right fresh w, graft_few content i bound fresh slot w.leads g.cells g.edit);
-      changes = graft_to change store a b c d content below past i slot page left bound right fresh w g.cells g.edit;
-    })
-graft_ok change store a b c d content below past i slot page left bound right fresh (Two l key birth r) w g =
-    (graft_stays change store a b c d content below past i slot page left bound right fresh w,
-      divided change store a d content g.cells l (bound_at key birth) r (graft_to change store a b c d content below past i slot page left bound right fresh w g.cells g.edit) g.nearly g.made
-      (grows_up change store a b c d content below past i slot page left bound right fresh w) (graft_few content i bound fresh slot w.leads g.cells g.edit))
+graft_ok change store a b c d content below past i slot page left bound right fresh (Page page') w g = (
+  graft_stays change store a b c d content below past i slot page left bound right fresh w,
+  record {
+    cells = g.cells;
+    spelled = g.made;
+    few = inr (grows_up change store a b c d content below past i slot page left bound right fresh w, graft_few content i bound fresh slot w.leads g.cells g.edit);
+    changes = graft_to change store a b c d content below past i slot page left bound right fresh w g.cells g.edit;
+  },
+)
+graft_ok change store a b c d content below past i slot page left bound right fresh (Two l key birth r) w g = (
+  graft_stays change store a b c d content below past i slot page left bound right fresh w,
+  divided change store a d content g.cells l (bound_at key birth) r (graft_to change store a b c d content below past i slot page left bound right fresh w g.cells g.edit) g.nearly g.made
+      (grows_up change store a b c d content below past i slot page left bound right fresh w) (graft_few content i bound fresh slot w.leads g.cells g.edit),
+)
 
 graft_fault : (change : Change) (store : ℕ) (a b c d : PageState) (content below : Content) (past i : ℕ) (slot : Slot) (page left : List ℕ) (bound : Bound) (right : List ℕ) (fresh : Slot) (fault : PairFault)
     → WasPut change store a b c d content below past i slot page left bound right fresh → IsNoGraft content (i + 1) bound fault → HasCause a d (IsNotMet (given_of change) (pair_of change) a d content) fault

@@ -3,13 +3,12 @@ use Rattle.std.proofs.Common.{◌≡◌, ◌⊎◌, ⊎_elim, inl, inr, ◌-◌,
 use Rattle.std.specs.Prelude.{◌==◌, All, slice_get, IfOk}
 use Rattle.std.specs.List.{flat_map}
 use Rattle.std.proofs.lemmas.Bool.{cases_lt}
-use Rattle.std.proofs.lemmas.List.{length-append, map-append, take-append-drop, length-take-le, take_all, length-map}
+use Rattle.std.proofs.lemmas.List.{length-append, take-append-drop, length-take-le, take_all, length-map}
 use Rattle.std.proofs.lemmas.List.Elements.{All-nil, All-cons}
-use Rattle.std.specs.declared.cmp.Ordering.TheVariants.{Less, Equal, Greater}
 use Rattle.pair_types.specs.declared.slot.Slot.{Slot}
 use Rattle.btree_page.specs.declared.cell.Cell.{Cell}
 use Rattle.btree_page.specs.Cells.{entry_of}
-use Rattle.btree_page.specs.Content.{Bound, bound_cmp, IsBelow, Body, Carries, Leads, Entry, Content, FitsBody, bound_of, spelling, entry_spelling, Fits, Follows, AreCells, last_bound, IsPage, Spells, inner_entry}
+use Rattle.btree_page.specs.Content.{Bound, IsBelow, Body, Carries, Leads, Entry, FitsBody, bound_of, entry_spelling, AreCells, last_bound, IsPage, Spells, inner_entry}
 use Rattle.btree_page.specs.Tree.{least}
 use Rattle.btree_page.proofs.Built.{leaf_size, inner_size}
 use Rattle.btree_search.proofs.Order.{bound_total, cells_above}
@@ -17,9 +16,8 @@ use Rattle.btree_search.proofs.Ranges.{is_inner}
 use Rattle.nfs3_types.specs.declared.memory.NoMemory.{NoMemory}
 use Rattle.btree_edit.specs.declared.outcome.Edited.{Edited}
 use Rattle.btree_edit.specs.declared.outcome.Edited.TheVariants.{Missing, Below, Page, Two}
-use Rattle.btree_edit.specs.Edits.{bound_at}
-use Rattle.btree_edit.specs.Made.{size, headed, headed_as, behind, IsShort, IsNearly, IsMiddle, IsTwo, IsSplit, IsMadeOf}
-use Rattle.btree_edit.proofs.Lists.{size_of_page, size-append, parts_of_cells, there, at_place}
+use Rattle.btree_edit.specs.Made.{size, headed, headed_as, behind, IsShort, IsNearly, IsMiddle, IsTwo, IsMadeOf}
+use Rattle.btree_edit.proofs.Lists.{size_of_page, size-append, parts_of_cells, at_place}
 use Rattle.btree_edit.proofs.Least.{least_first, up_to}
 
 -- ---- sizes of cells
@@ -120,20 +118,23 @@ halves level cells m near middle full =
     let front : length (take m cells) ≡ m = length-take-le m cells middle.within in
     let some : 0 < m = ⊎_elim (λ e. absurd (none e enough)) (λ lt. lt) (zero_or m) in
     let within : m < length cells = ⊎_elim (λ e. absurd (whole e sizes middle.short)) (λ lt. lt) (end_or m middle.within) in
-    let x = at_place cells m within in
-    (record {
+    let x = at_place cells m within in (
+      record {
         level = near.byte;
         cells = parts.0;
         least = λ up. inner_many up (take m cells) None parts.0 (omega arith);
         size = omega (arith, size_of_page level (take m cells), middle.short);
       },
-      (record {
+      (
+        record {
           level = near.byte;
           cells = behind_cells x some parts.1;
           least = λ up. omega (arith, length_behind (drop m cells), inner_many up (drop m cells) (last_bound None (take m cells)) parts.1 (omega (arith, middle.short)));
           size = omega (arith, size_of_page level (behind (drop m cells)), behind_small (drop m cells), near.few);
         },
-        (some, within)))
+        (some, within),
+      ),
+    )
   where
     inner_many : 0 < level → (es : List Entry) (before : Option Bound) → AreCells (level == 0) before es → 286 < size es → 2 ≤ length es
     inner_many up es before h big =
@@ -281,9 +282,10 @@ pub halves_of : (level : ℕ) (cells front back : List Cell) (m : ℕ) → IsNea
 halves_of level cells front back m near middle full f b =
     let half = halves level (map entry_of cells) m near middle full in
     let fs : map entry_of front ≡ take m (map entry_of cells) = ap (λ (cs : List Cell). map entry_of cs) f ∙ map_take entry_of m cells in
-    let bs : map entry_of back ≡ drop m (map entry_of cells) = ap (λ (cs : List Cell). map entry_of cs) b ∙ map_drop entry_of m cells in
-    (subst (λ (es : List Entry). IsPage (record { level = level; cells = es })) (sym fs) half.0,
-      subst (λ (es : List Entry). IsPage (record { level = level; cells = behind es })) (sym bs) half.1.0)
+    let bs : map entry_of back ≡ drop m (map entry_of cells) = ap (λ (cs : List Cell). map entry_of cs) b ∙ map_drop entry_of m cells in (
+      subst (λ (es : List Entry). IsPage (record { level = level; cells = es })) (sym fs) half.0,
+      subst (λ (es : List Entry). IsPage (record { level = level; cells = behind es })) (sym bs) half.1.0,
+    )
 
 pub whole_page : (level : ℕ) (cells : List Entry) → IsNearly level cells → size cells ≤ 8188 → IsPage (record { level = level; cells = cells })
 whole_page level cells near le = record { level = near.byte; cells = near.rules; least = near.least; size = omega (arith, size_of_page level cells) }

@@ -1,29 +1,29 @@
 -- Cells of a page with one removed, put in the place of another, or put in between.
-use Rattle.std.proofs.Common.{◌≡◌, ◌≢◌, ⊎_elim, ℕ, zero, suc, ◌+◌, ◌-◌, ◌<◌, ◌≤◌, Bool, true, false, List, [], ◌∷◌, ◌++◌, map, length, take, drop, get_or, set, Option, Some, None, Result, Ok, Err, refl, sym, ap, subst, ◌∙◌, arith}
-use Rattle.std.specs.Prelude.{◌==◌, All, slice_get, slice_set, IfOk}
+use Rattle.std.proofs.Common.{◌≡◌, ◌≢◌, ℕ, zero, suc, ◌+◌, ◌-◌, ◌<◌, ◌≤◌, Bool, true, false, List, [], ◌∷◌, map, length, take, drop, get_or, set, Option, Some, None, Result, Ok, Err, refl, sym, ap, subst, ◌∙◌, arith}
+use Rattle.std.specs.Prelude.{◌==◌, All, slice_get, IfOk}
 use Rattle.std.specs.List.{flat_map, remove, insert}
 use Rattle.std.specs.declared.cmp.Ordering.{Ordering}
 use Rattle.std.specs.declared.cmp.Ordering.TheVariants.{Less, Equal, Greater}
 use Rattle.std.proofs.lemmas.List.{length-append, length-map, map-set}
-use Rattle.std.proofs.lemmas.List.Edits.{length-remove, length-insert}
+use Rattle.std.proofs.lemmas.List.Edits.{length-insert}
 use Rattle.nfs3_types.specs.declared.memory.NoMemory.{NoMemory}
 use Rattle.pair_types.specs.declared.slot.Slot.{Slot}
 use Rattle.pair_types.specs.declared.quad.Quad.{Quad}
 use Rattle.btree_page.specs.declared.cell.Cell.{Cell}
 use Rattle.btree_page.specs.Cells.{entry_of}
-use Rattle.btree_page.specs.Content.{Bound, bound_cmp, IsBelow, Entry, Content, bound_of, entry_spelling, Fits, Follows, AreCells, IsPage, inner_entry}
+use Rattle.btree_page.specs.Content.{Bound, IsBelow, Entry, Content, bound_of, entry_spelling, Fits, Follows, AreCells, IsPage, inner_entry}
 use Rattle.btree_page.specs.Tree.{quad_bound, quad_cell}
 use Rattle.btree_search.specs.declared.aim.Aim.TheVariants.{AtOrAfter, After}
 use Rattle.btree_search.specs.Aim.{is_sought}
-use Rattle.btree_search.specs.Find.{seeks, BeginsAt}
+use Rattle.btree_search.specs.Find.{BeginsAt}
 use Rattle.btree_search.proofs.Order.{turned}
 use Rattle.btree_search.proofs.Ranges.{is_inner}
 use Rattle.btree_edit.specs.declared.outcome.Edited.{Edited}
 use Rattle.btree_edit.specs.declared.outcome.Edited.TheVariants.{Missing, Below, Page, Two}
-use Rattle.btree_edit.specs.Made.{size, IsShort, IsNearly, IsMadeOf}
+use Rattle.btree_edit.specs.Made.{size, IsNearly, IsMadeOf}
 use Rattle.btree_edit.specs.Changes.{RemovesCell, ReplacesCell, InsertsCell, AreMade, Answers}
 use Rattle.btree_edit.proofs.Lists.{size_of_page, size-append, parts_of_cells, joined_cells, at_place, map_remove, above_before}
-use Rattle.btree_edit.proofs.Parting.{short_body, size_parts, map_take, map_drop}
+use Rattle.btree_edit.proofs.Parting.{short_body, size_parts}
 use Rattle.btree_edit.proofs.Leaves.{found_at}
 
 -- ---- the order
@@ -41,11 +41,16 @@ inserted_cells is_leaf before [] zero e h le fits first low high = (fits, (first
 inserted_cells is_leaf before [] (suc at) e h le fits first low high = absurd (omega arith)
 inserted_cells is_leaf before (c ∷ cells) zero e h le fits first low high =
     (fits, (first refl, (h.0, (below_follows is_leaf (bound_of e) c (high 0 c (omega arith) refl), h.1.1))))
-inserted_cells is_leaf before (c ∷ cells) (suc at) e h le fits first low high =
-    (h.0, (h.1.0, inserted_cells is_leaf (Some (bound_of c)) cells at e h.1.1 (omega arith) fits
-    (λ is. below_follows is_leaf (bound_of c) e (low 0 c (omega arith) refl))
-    (λ k x lt there. low (suc k) x (omega arith) there)
-    (λ k x up there. high (suc k) x (omega arith) there)))
+inserted_cells is_leaf before (c ∷ cells) (suc at) e h le fits first low high = (
+  h.0,
+  (
+    h.1.0,
+    inserted_cells is_leaf (Some (bound_of c)) cells at e h.1.1 (omega arith) fits
+        (λ is. below_follows is_leaf (bound_of c) e (low 0 c (omega arith) refl))
+        (λ k x lt there. low (suc k) x (omega arith) there)
+        (λ k x up there. high (suc k) x (omega arith) there),
+  ),
+)
 
 -- a cell in the place of one at the same bound
 set_cells : (before : Option Bound) (cells : List Entry) (at : ℕ) (e : Entry) → AreCells true before cells → at < length cells → Fits true e
@@ -124,7 +129,7 @@ replaced_leaf q content xs ys zs x at past leaf rules all h k isnt is fits put s
     let page = leaf_rules content leaf rules in (
       record { at = at; within = found.0; place = found.1; now = left },
       subst (λ (es : List Entry). IsNearly 0 es) (sym left) (near (set content.cells at (quad_cell q)) (set_cells None content.cells at (quad_cell q) page.0 found.0 fits found.1)
-      (omega (arith, page.1, size_set content.cells at (quad_cell q), short_body true q.key q.birth (quad_cell q).body fits.key fits.body))),
+          (omega (arith, page.1, size_set content.cells at (quad_cell q), short_body true q.key q.birth (quad_cell q).body fits.key fits.body))),
     )
 
 -- what lies before and behind a place where none stands at the pair
@@ -166,7 +171,7 @@ inserted_leaf q content xs ys zs x at past leaf rules all h k same_place is fits
     let there : BeginsAt After (quad_bound q) content.cells at = subst (λ (n : ℕ). BeginsAt After (quad_bound q) content.cells n) (sym same_place) k in (
       record { at = at; within = h.within; now = left },
       subst (λ (es : List Entry). IsNearly 0 es) (sym left) (near (insert content.cells at (quad_cell q)) (placed_cells true (quad_bound q) content.cells at (quad_cell q) page.0 h there fits refl (λ z. tt))
-      (omega (arith, page.1, size_insert content.cells at (quad_cell q), short_body true q.key q.birth (quad_cell q).body fits.key fits.body))),
+          (omega (arith, page.1, size_insert content.cells at (quad_cell q), short_body true q.key q.birth (quad_cell q).body fits.key fits.body))),
     )
 
 -- ---- the answer

@@ -11,10 +11,10 @@ use Rattle.pair_types.specs.declared.quad.Quad.{Quad}
 use Rattle.pair_types.specs.declared.fault.PageFault.{PageFault}
 use Rattle.pair_types.specs.declared.fault.PairFault.{PairFault}
 use Rattle.pair_types.specs.declared.fault.PairFault.TheVariants.{Odd, HeightFull, Page as PageGave}
-use Rattle.pair_types.specs.PageMaps.{PageMap, ReadMap, Agrees, Extends, Puts, laid, over, latest, page_of}
+use Rattle.pair_types.specs.PageMaps.{PageMap, laid, over, latest, page_of}
 use Rattle.pair_types.specs.PageState.{PageState, Reads, Writes, GivesUp, no_memory}
-use Rattle.btree_page.specs.Content.{Bound, IsBelow, Entry, Leads, Content, Spells, IsPage, AreCells, inner_entry, bound_of, entry_spelling}
-use Rattle.btree_page.specs.Tree.{Holds, IsIn, AllIn, Among, quad_bound, quad_cell, Child, child_cell}
+use Rattle.btree_page.specs.Content.{Bound, IsBelow, Entry, Content, Spells, AreCells, inner_entry, bound_of, entry_spelling}
+use Rattle.btree_page.specs.Tree.{IsIn, AllIn, Among, quad_bound, quad_cell, child_cell}
 use Rattle.btree_page.proofs.Trees.{has_one_content}
 use Rattle.btree_page.proofs.Built.{leaf_size}
 use Rattle.btree_search.specs.declared.aim.Aim.TheVariants.{After}
@@ -28,18 +28,17 @@ use Rattle.btree_edit.specs.declared.change.Change.{Change}
 use Rattle.btree_edit.specs.declared.change.Change.TheVariants.{Remove, Replace, Insert}
 use Rattle.btree_edit.specs.declared.outcome.Edited.{Edited}
 use Rattle.btree_edit.specs.declared.outcome.Edited.TheVariants.{Missing, Below, Page, Two}
-use Rattle.btree_edit.specs.Edits.{bound_at, Nothing, Lacks, Removes, Replaces, Inserts, IsLonger}
-use Rattle.btree_edit.specs.Edited.{IsOpen, Frame, GoesOn}
-use Rattle.btree_edit.specs.Made.{size, IsNearly, IsSplit, IsMadeOf}
-use Rattle.btree_edit.specs.Changes.{pair_of, edit_of, given_of, open_of, AreMade, Answers, cells_edit, misses_of, refusal_of, EditsLeaf}
-use Rattle.btree_edit.specs.Below.{Bears, BearsRecords, IsMet, Changed, ChangesTo, LacksBelow, IsNotMet, StaysFrom, Grows, Becomes, Divides, IsEdited, EditsBelow}
+use Rattle.btree_edit.specs.Edits.{bound_at, Nothing, Lacks, Removes, Replaces, Inserts}
+use Rattle.btree_edit.specs.Edited.{GoesOn}
+use Rattle.btree_edit.specs.Made.{size, IsNearly, IsSplit}
+use Rattle.btree_edit.specs.Changes.{pair_of, edit_of, given_of, open_of, Answers, cells_edit, misses_of, refusal_of, EditsLeaf}
+use Rattle.btree_edit.specs.Below.{Bears, BearsRecords, IsMet, Changed, ChangesTo, LacksBelow, IsNotMet, StaysFrom, Grows, IsEdited, EditsBelow}
 use Rattle.btree_edit.proofs.Lists.{at_place, map_remove, there}
 use Rattle.btree_edit.proofs.Opened.{slot_cases}
-use Rattle.btree_edit.proofs.Seats.{Seat}
 use Rattle.btree_edit.proofs.Placed.{leaf_rules}
 use Rattle.btree_edit.proofs.Divided.{divided}
-use Rattle.btree_edit.proofs.Rebuilt.{IsLocal, not_open, some_held, rebuilt}
-use Rattle.btree_edit.proofs.States.{goes_same, goes_only, goes_then, goes_write, goes_gives_up, over_put, in_stores_put, reads_latest, shown_within, Sought, sought, child_read, MetChild, IsPartial, met_child}
+use Rattle.btree_edit.proofs.Rebuilt.{IsLocal, not_open, rebuilt}
+use Rattle.btree_edit.proofs.States.{goes_same, goes_only, goes_then, goes_write, goes_gives_up, over_put, in_stores_put, reads_latest, shown_within, sought, child_read, MetChild, IsPartial, met_child}
 
 -- ---- a leaf
 
@@ -191,7 +190,7 @@ leaf_grows (Replace q) a content cells leaf h full = λ under low high quads bel
     let longer : length x.0.value < length q.now.value =
     omega (arith, page.1, ap size h.now, size_swap content.cells h.at (quad_cell x.0) (quad_cell q.now) at_gone, leaf_size x.0.key x.0.birth x.0.death x.0.value, leaf_size q.now.key q.now.birth q.now.death q.now.value) in
     λ k d lt same. subst (λ (r : Quad). length r.value < length q.now.value)
-        (sym (only_there quads h.at x.0 (quad_bound q.now) k d (subst (λ (es : List Entry). AreCells true None es) r.records page.0) x.1 x.3 lt same)) longer
+    (sym (only_there quads h.at x.0 (quad_bound q.now) k d (subst (λ (es : List Entry). AreCells true None es) r.records page.0) x.1 x.3 lt same)) longer
 
 -- ---- the answer at a leaf
 
@@ -208,18 +207,23 @@ leaf_ok : (change : Change) (store : ℕ) (a : PageState) (content : Content) (e
     → Answers (cells_edit change content.cells) (misses_of change content.cells) edited → IsEdited change store a a content (Ok edited)
 leaf_ok change store a content Missing leaf h = leaf_missing change store a content leaf h
 leaf_ok change store a content Below leaf h = absurd h
-leaf_ok change store a content (Page page) leaf h = (λ s c spelled up. refl, record {
-  cells = h.cells;
-  spelled = subst (λ (n : ℕ). Spells (record { level = n; cells = h.cells }) page) (sym leaf) h.made;
-  few = leaf_few change a content h.cells h.edit;
-  changes = leaf_changes change store a content h.cells leaf h.edit;
-})
-leaf_ok change store a content (Two left key birth right) leaf h = (λ s c spelled up. refl,
+leaf_ok change store a content (Page page) leaf h = (
+  λ s c spelled up. refl,
+  record {
+    cells = h.cells;
+    spelled = subst (λ (n : ℕ). Spells (record { level = n; cells = h.cells }) page) (sym leaf) h.made;
+    few = leaf_few change a content h.cells h.edit;
+    changes = leaf_changes change store a content h.cells leaf h.edit;
+  },
+)
+leaf_ok change store a content (Two left key birth right) leaf h = (
+  λ s c spelled up. refl,
   divided change store a a content h.cells left (bound_at key birth) right (leaf_changes change store a content h.cells leaf h.edit)
-  (subst (λ (n : ℕ). IsNearly n h.cells) (sym leaf) h.nearly)
-  (subst (λ (n : ℕ). IsSplit n h.cells left (bound_at key birth) right) (sym leaf) h.made)
-  (leaf_grows change a content h.cells leaf h.edit h.made.full)
-  (few_more change a content h.cells h.edit))
+      (subst (λ (n : ℕ). IsNearly n h.cells) (sym leaf) h.nearly)
+      (subst (λ (n : ℕ). IsSplit n h.cells left (bound_at key birth) right) (sym leaf) h.made)
+      (leaf_grows change a content h.cells leaf h.edit h.made.full)
+      (few_more change a content h.cells h.edit),
+)
 
 -- ---- the answer at a leaf, whatever it is
 
@@ -463,4 +467,3 @@ fault_below change store a b c content below past i slot page fault inner begins
       none under m.sought.seat.from m.sought.seat.to m.sought.seat.here m.sought.inner.below m.met)
       h.answer;
 }
-

@@ -1,28 +1,27 @@
 -- From the root page to the tree: what an edit below the root is of every tree.
 use Rattle.std.proofs.Common.{◌≡◌, ◌≢◌, ◌⊎◌, ⊎_elim, inl, inr, ℕ, suc, ◌+◌, ◌<◌, ◌≤◌, Bool, true, false, List, [], ◌∷◌, ◌++◌, length, Option, Some, None, IsSome, unwrap_or, Ok, Err, Result, refl, sym, ap, subst, ◌∙◌, arith, add-one, get_or}
-use Rattle.std.specs.Prelude.{All, OnOk, IfOk, IfErr}
+use Rattle.std.specs.Prelude.{IfOk, IfErr}
 use Rattle.pair_types.specs.declared.slot.Slot.{Slot}
 use Rattle.pair_types.specs.declared.quad.Quad.{Quad}
 use Rattle.pair_types.specs.declared.fault.PageFault.{PageFault}
 use Rattle.pair_types.specs.declared.fault.PairFault.{PairFault}
 use Rattle.pair_types.specs.declared.fault.PairFault.TheVariants.{Odd, HeightFull, Page as PageGave}
-use Rattle.pair_types.specs.PageMaps.{PageMap, ReadMap, Agrees, Extends, Puts, laid, over, latest, page_of}
-use Rattle.pair_types.specs.PageState.{PageState, IsSound, Reads, Writes, Freshens, GivesUp, no_memory}
-use Rattle.btree_page.specs.Content.{Bound, Entry, Content, Spells, IsPage, inner_entry}
-use Rattle.btree_page.specs.Tree.{Holds, Among, Child, Kids, Subtree, quad_bound, root, least, IsFormed}
+use Rattle.pair_types.specs.PageMaps.{PageMap, Agrees, Extends, laid, over, latest, page_of}
+use Rattle.pair_types.specs.PageState.{PageState, IsSound, Reads, Writes, Freshens, GivesUp}
+use Rattle.btree_page.specs.Content.{Bound, Entry, Content, Spells, inner_entry}
+use Rattle.btree_page.specs.Tree.{Among, Child, Kids, Subtree, quad_bound, root, least, IsFormed}
 use Rattle.btree_page.proofs.Trees.{among_left, among_right, among_either, has_one_content}
 use Rattle.btree_search.specs.Found.{OnlyReads, HasCause}
 use Rattle.btree_search.specs.Walk.{InStores, IsShown}
 use Rattle.btree_search.proofs.Walks.{odd_cause, cause_later, agrees_before, page_there, some_of}
 use Rattle.btree_edit.specs.declared.change.Change.{Change}
 use Rattle.btree_edit.specs.declared.change.Change.TheVariants.{Remove, Replace, Insert}
-use Rattle.btree_edit.specs.declared.outcome.Edited.{Edited}
 use Rattle.btree_edit.specs.declared.outcome.Edited.TheVariants.{Missing, Below, Page, Two}
-use Rattle.btree_edit.specs.Edits.{bound_at, Nothing, Lacks, Replaces, IsLonger, IsNoLonger}
-use Rattle.btree_edit.specs.Edited.{IsOpen, Frame, EditsTree, EditsIn, LacksIn, HadNoTree, GoesOn, RootStays, RootGrows, IsFull, HasPutCause}
+use Rattle.btree_edit.specs.Edits.{bound_at, Nothing, Replaces, IsLonger, IsNoLonger}
+use Rattle.btree_edit.specs.Edited.{IsOpen, EditsTree, EditsIn, HadNoTree, GoesOn, RootStays, RootGrows, IsFull, HasPutCause}
 use Rattle.btree_edit.specs.Changes.{pair_of, edit_of, given_of, open_of}
-use Rattle.btree_edit.specs.Below.{Bears, IsMet, Changed, IsNotMet, StaysFrom, Grows, Becomes, Divides, Parted, EditsBelow, PutsTwo}
-use Rattle.btree_edit.specs.Roots.{Raises, FailsSo, TreeGrows, MissesIn, IsPut, PutsIn}
+use Rattle.btree_edit.specs.Below.{Bears, IsMet, Changed, IsNotMet, Grows, Divides, Parted, EditsBelow, PutsTwo}
+use Rattle.btree_edit.specs.Roots.{Raises, FailsSo, TreeGrows, MissesIn, PutsIn}
 use Rattle.btree_edit.proofs.Least.{all_in}
 use Rattle.btree_edit.proofs.Opened.{Seated, opened, closed, bears_keep, some_not_none, slot_cases}
 use Rattle.btree_edit.proofs.Rebuilt.{not_open, some_held, reclosed}
@@ -211,10 +210,13 @@ root_written change store a b c d content page page' r h writes =
     let was = root_was a b d page content before r later.extends spelled in
     let is = root_is a d after (record { level = content.level; cells = h.answer.1.cells }) page' writes.puts.put h.answer.1.spelled now in
     (ap (λ (c : Content). c.level) is ∙ sym (ap (λ (c : Content). c.level) was), omega (arith, ap (λ (c : Content). length c.cells) is, ap (λ (c : Content). length c.cells) was, few))))
-    (λ more. inr (tree_grows change store a b c d content page r h.goes_on goes more.0, λ before after spelled now.
-    let was = root_was a b d page content before r later.extends spelled in
-    let is = root_is a d after (record { level = content.level; cells = h.answer.1.cells }) page' writes.puts.put h.answer.1.spelled now in
-    inl (ap (λ (c : Content). c.level) is ∙ sym (ap (λ (c : Content). c.level) was), omega (arith, ap (λ (c : Content). length c.cells) is, ap (λ (c : Content). length c.cells) was, more.1))))
+    (λ more. inr (
+      tree_grows change store a b c d content page r h.goes_on goes more.0,
+      λ before after spelled now.
+          let was = root_was a b d page content before r later.extends spelled in
+          let is = root_is a d after (record { level = content.level; cells = h.answer.1.cells }) page' writes.puts.put h.answer.1.spelled now in
+          inl (ap (λ (c : Content). c.level) is ∙ sym (ap (λ (c : Content). c.level) was), omega (arith, ap (λ (c : Content). length c.cells) is, ap (λ (c : Content). length c.cells) was, more.1)),
+    ))
     h.answer.1.few
 
 pub root_full : (change : Change) (store : ℕ) (a b c : PageState) (content : Content) (page left : List ℕ) (bound : Bound) (right : List ℕ)
@@ -231,10 +233,13 @@ root_full change store a b c content page left bound right r goes parts highest 
 pub root_raised : (change : Change) (store : ℕ) (a b c d : PageState) (content : Content) (page left : List ℕ) (bound : Bound) (right : List ℕ)
     → WasRead a b content page → GoesOn b c → Divides change store b c content left bound right → Raises c d (content.level + 1) left bound right store → RootStays a d ⊎ (TreeGrows change a d × RootGrows a d)
 root_raised change store a b c d content page left bound right r goes parts raises =
-    inr (tree_grows change store a b c d content page r goes raises.goes_on parts.grows, λ before after spelled now.
-    let was = root_was a b d page content before r (goes_then b c d goes raises.goes_on).extends spelled in
-    let is = root_is a d after _ raises.page raises.root_put raises.spelled now in
-    inr (ap (λ (c : Content). c.level) is ∙ ap (λ (n : ℕ). n + 1) (sym (ap (λ (c : Content). c.level) was)), ap (λ (c : Content). length c.cells) is))
+    inr (
+      tree_grows change store a b c d content page r goes raises.goes_on parts.grows,
+      λ before after spelled now.
+          let was = root_was a b d page content before r (goes_then b c d goes raises.goes_on).extends spelled in
+          let is = root_is a d after _ raises.page raises.root_put raises.spelled now in
+          inr (ap (λ (c : Content). c.level) is ∙ ap (λ (n : ℕ). n + 1) (sym (ap (λ (c : Content). c.level) was)), ap (λ (c : Content). length c.cells) is),
+    )
 
 -- ---- the tree is one level higher
 
@@ -287,7 +292,7 @@ tree_raised change store a b c d content page left bound right r goes parts rais
     let root_out : Among root (x.reached_left ++ x.reached_right) → ⊥ = λ there. ⊎_elim (λ old. m.inner.apart old) (λ free. not_open (open_of change store) p root present free) (x.frame.within root there) in
     let apart_from : (s t : Slot) → IsSome (mid s) → mid t ≡ None → s ≢ t = λ s t some none is. some_not_none (mid s) some (ap (λ (y : Slot). mid y) is ∙ none) in
     let kept : (s : Slot) → IsSome (mid s) → s ≢ root → q s ≡ mid s = λ s some not_root.
-        ap (λ (o : Option (List ℕ)). laid o (under s)) (raises.others s not_root (apart_from s l some l_mid) (apart_from s k some k_mid)) in
+    ap (λ (o : Option (List ℕ)). laid o (under s)) (raises.others s not_root (apart_from s l some l_mid) (apart_from s k some k_mid)) in
     let not_root_left : (s : Slot) → Among s x.reached_left → s ≢ root = λ s there is. root_out (among_left root x.reached_left x.reached_right (subst (λ (y : Slot). Among y x.reached_left) is there)) in
     let not_root_right : (s : Slot) → Among s x.reached_right → s ≢ root = λ s there is. root_out (among_right root x.reached_left x.reached_right (subst (λ (y : Slot). Among y x.reached_right) is there)) in
     let l_left : Among l x.reached_left → ⊥ = λ there. some_not_none (mid l) (left_there l there) l_mid in
@@ -321,24 +326,26 @@ tree_raised change store a b c d content page left bound right r goes parts rais
       right = right_tree;
       all_quads = refl;
       all_slots = refl;
-      apart = record { none = λ s n f. ⊎_elim
-          (λ is. ⊎_elim (λ is'. raises.two (sym is ∙ is')) (λ far. l_right (subst (λ (y : Slot). Among y x.reached_right) is far)) f)
-          (λ near. ⊎_elim (λ is'. k_left (subst (λ (y : Slot). Among y x.reached_left) is' near)) (λ far. x.apart s near far) f)
-          n };
+      apart = record {
+        none = λ s n f. ⊎_elim
+            (λ is. ⊎_elim (λ is'. raises.two (sym is ∙ is')) (λ far. l_right (subst (λ (y : Slot). Among y x.reached_right) is far)) f)
+            (λ near. ⊎_elim (λ is'. k_left (subst (λ (y : Slot). Among y x.reached_left) is' near)) (λ far. x.apart s near far) f)
+            n;
+      };
     } in
     let within : 0 < a.stores = shown_within a b root page 0 64 content r.reads r.shown in
     let stored : (s : Slot) → IsSome (q s) → s.store < d.stores = λ s some. ⊎_elim
-        (λ is. subst (λ (y : Slot). y.store < d.stores) (sym is) (omega (arith, within, raises.goes_on.lasts.stores, goes.lasts.stores, r.only.lasts.stores)))
-        (λ not_root. ⊎_elim
-        (λ is. subst (λ (y : Slot). y.store < d.stores) (sym is) (omega (arith, raises.first_store, asked, raises.goes_on.lasts.stores, goes.lasts.stores, r.only.lasts.stores)))
-        (λ not_l. ⊎_elim
-        (λ is. subst (λ (y : Slot). y.store < d.stores) (sym is) (omega (arith, raises.second_store, asked, raises.goes_on.lasts.stores, goes.lasts.stores, r.only.lasts.stores)))
-        (λ not_k. omega (arith, raises.goes_on.lasts.stores, x.in_stores.at s (subst (λ (o : Option (List ℕ)). IsSome o) (ap (λ (o : Option (List ℕ)). laid o (under s)) (raises.others s not_root not_l not_k)) some)))
-        (slot_cases s k))
-        (slot_cases s l))
-        (slot_cases s root) in
+    (λ is. subst (λ (y : Slot). y.store < d.stores) (sym is) (omega (arith, within, raises.goes_on.lasts.stores, goes.lasts.stores, r.only.lasts.stores)))
+    (λ not_root. ⊎_elim
+    (λ is. subst (λ (y : Slot). y.store < d.stores) (sym is) (omega (arith, raises.first_store, asked, raises.goes_on.lasts.stores, goes.lasts.stores, r.only.lasts.stores)))
+    (λ not_l. ⊎_elim
+    (λ is. subst (λ (y : Slot). y.store < d.stores) (sym is) (omega (arith, raises.second_store, asked, raises.goes_on.lasts.stores, goes.lasts.stores, r.only.lasts.stores)))
+    (λ not_k. omega (arith, raises.goes_on.lasts.stores, x.in_stores.at s (subst (λ (o : Option (List ℕ)). IsSome o) (ap (λ (o : Option (List ℕ)). laid o (under s)) (raises.others s not_root not_l not_k)) some)))
+    (slot_cases s k))
+    (slot_cases s l))
+    (slot_cases s root) in
     let from_mid : (s : Slot) → Among s (x.reached_left ++ x.reached_right) → Among s slots ⊎ IsOpen (open_of change store) p s = λ s there.
-        ⊎_elim (λ old. inl (subst (λ (ss : List Slot). Among s ss) (sym m.inner.reached) (inr old))) (λ free. inr free) (x.frame.within s there) in
+    ⊎_elim (λ old. inl (subst (λ (ss : List Slot). Among s ss) (sym m.inner.reached) (inr old))) (λ free. inr free) (x.frame.within s there) in
     let tree : Subtree q (suc content.level) root least None (x.after_left ++ x.after_right) (root ∷ below) = record {
       first = l;
       rest = new ∷ [];
@@ -477,8 +484,12 @@ put_any change store a b false h = inr h.answer
 not_both_long : (q : Quad) (quads after : List Quad) → Replaces q quads after → IsLonger q quads → IsNoLonger q quads → ⊥
 not_both_long q quads after h longer no_longer =
     let there = among h.below h.above h.gone quads h.was in
-    omega (arith, longer there.0 h.gone there.1 (ap (λ (r : Quad). quad_bound r) there.2 ∙ h.place), no_longer there.0 h.gone there.1 (ap (λ (r : Quad). quad_bound r) there.2 ∙ h.place),
-      ap (λ (r : Quad). length r.value) there.2)
+    omega (
+      arith,
+      longer there.0 h.gone there.1 (ap (λ (r : Quad). quad_bound r) there.2 ∙ h.place),
+      no_longer there.0 h.gone there.1 (ap (λ (r : Quad). quad_bound r) there.2 ∙ h.place),
+      ap (λ (r : Quad). length r.value) there.2,
+    )
   where
     inside : (below above : List Quad) (g : Quad) → (k : ℕ) × (k < length (below ++ (g ∷ above))) × (get_or (below ++ (g ∷ above)) k g ≡ g)
     inside [] above g = (0, omega arith, refl)

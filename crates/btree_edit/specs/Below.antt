@@ -1,5 +1,5 @@
 -- What an edit makes of a page, and of what lies below it.
-use Rattle.std.specs.Prelude.{ℕ, zero, suc, ◌≡◌, ◌≢◌, ◌⊎◌, ◌+◌, ◌<◌, ◌≤◌, List, [], ◌∷◌, ◌++◌, length, map, Option, Some, None, Result, Ok, Err, All, slice_get}
+use Rattle.std.specs.Prelude.{ℕ, zero, suc, ◌≡◌, ◌≢◌, ◌⊎◌, ◌+◌, ◌<◌, ◌≤◌, List, [], ◌∷◌, ◌++◌, length, map, Option, Some, None, Result, Ok, Err}
 use Rattle.std.specs.List.{insert}
 use Rattle.pair_types.specs.declared.slot.Slot.{Slot}
 use Rattle.pair_types.specs.declared.quad.Quad.{Quad}
@@ -20,7 +20,6 @@ use Rattle.btree_edit.specs.declared.outcome.Edited.{Edited}
 use Rattle.btree_edit.specs.declared.outcome.Edited.TheVariants.{Missing, Below, Page, Two}
 use Rattle.btree_edit.specs.Edits.{bound_at, Nothing, Lacks, IsLonger}
 use Rattle.btree_edit.specs.Edited.{Frame, GoesOn}
-use Rattle.btree_edit.specs.Made.{IsNearly, IsMadeOf}
 use Rattle.btree_edit.specs.Changes.{pair_of, edit_of, given_of, open_of, AreMade}
 
 -- ---- what lies below a page

@@ -5,7 +5,7 @@ use Rattle.pair_types.specs.declared.quad.Quad.{Quad}
 use Rattle.pair_types.specs.declared.fault.PairFault.{PairFault}
 use Rattle.pair_types.specs.declared.fault.PairFault.TheVariants.{Odd, HeightFull, Page as PageGave}
 use Rattle.pair_types.specs.PageState.{no_memory}
-use Rattle.btree_page.specs.Content.{Bound, Entry, AreCells, bound_of}
+use Rattle.btree_page.specs.Content.{Bound, Entry, bound_of}
 use Rattle.btree_page.specs.Tree.{quad_bound, quad_cell}
 use Rattle.btree_edit.specs.declared.change.Change.{Change}
 use Rattle.btree_edit.specs.declared.change.Change.TheVariants.{Remove, Replace, Insert}

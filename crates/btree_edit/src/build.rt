@@ -141,11 +141,7 @@ fn two(alloc: Global, left: Page, edge: &Cell<'_>, right: Page) -> Result<Edited
 }
 
 /// The page of a level with these cells, or two where one has no room for them.
-pub(crate) fn pages_of(
-    alloc: Global,
-    level: u32,
-    cells: &[Cell<'_>],
-) -> Result<Edited, NoMemory>
+pub(crate) fn pages_of(alloc: Global, level: u32, cells: &[Cell<'_>]) -> Result<Edited, NoMemory>
     requires { IsNearly level (map entry_of cells.now) }
     ensures { IfOk result (λ edited. IsMadeOf level (map entry_of cells.now) edited) }
 {

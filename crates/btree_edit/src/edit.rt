@@ -31,12 +31,7 @@ const ROOT: Slot = Slot {
 const HEIGHT: u32 = 64;
 
 /// Puts a record into the tree, in which none has its key and birth. New pages go to the store.
-pub fn insert<G: Pages>(
-    alloc: Global,
-    pages: &mut G,
-    q: &Quad,
-    store: u32,
-) -> Result<(), PairFault>
+pub fn insert<G: Pages>(alloc: Global, pages: &mut G, q: &Quad, store: u32) -> Result<(), PairFault>
     requires record_fits { IsRecord q.now }
     requires store { store < (G.state pages.old).stores }
     // The list of records has it from now on, if none had its key and birth.
@@ -115,7 +110,13 @@ pub fn remove<G: Pages>(
         Ok(view) => view,
         Err(fault) => return Err(fault),
     };
-    match edit_below(alloc, pages, &view, &Change::Remove { key, birth }, ROOT.store) {
+    match edit_below(
+        alloc,
+        pages,
+        &view,
+        &Change::Remove { key, birth },
+        ROOT.store,
+    ) {
         Ok(Edited::Missing) => Ok(false),
         Ok(Edited::Below) => Ok(true),
         Ok(Edited::Page(page)) => match pages.write(ROOT, page) {
@@ -166,7 +167,16 @@ fn put<G: Pages>(
             if level == HEIGHT {
                 return Err(PairFault::HeightFull);
             }
-            match raise(alloc, pages, level + 1, left, key.as_slice(), birth, right, store) {
+            match raise(
+                alloc,
+                pages,
+                level + 1,
+                left,
+                key.as_slice(),
+                birth,
+                right,
+                store,
+            ) {
                 Ok(()) => Ok(true),
                 Err(fault) => Err(fault),
             }

@@ -91,8 +91,9 @@ fn many_records_come_in_and_every_other_one_goes(rt: HostRuntime) -> Result<(), 
         let q = record(alloc, key.as_bytes(), &[b'v'; 100])?;
         insert(alloc, &mut pages, &q, 0)?;
     }
-    for n in 0u16..1000 {
-        let key = format!(in alloc; "{:04}", 2 * n + 1)?;
+    for half in 0u16..1000 {
+        let odd = 2 * half + 1;
+        let key = format!(in alloc; "{odd:04}")?;
         assert!(rt; remove(alloc, &mut pages, key.as_bytes(), 1)?);
         assert!(rt; !remove(alloc, &mut pages, key.as_bytes(), 1)?);
     }

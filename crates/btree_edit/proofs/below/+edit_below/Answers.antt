@@ -1,4 +1,4 @@
-use Rattle.std.proofs.Common.{◌≡◌, ◌≢◌, ◌∙◌, arith}
+use Rattle.std.proofs.Common.{◌≢◌, ◌∙◌, arith}
 use Rattle.btree_edit.proofs.Steps.{leaf_edited, no_child, no_page, missing_below, changed_below, written_below, unwritten_below, fault_below}
 use Rattle.btree_edit.specs.Edits.{bound_at}
 use Rattle.btree_edit.proofs.Grafts.{WasPut, grafted_below, unput_below}
@@ -56,7 +56,7 @@ returns-in-Ok-put_two g t c =
     let done = rw c.in-Ok-Two.field-0-is at c.in-Ok-Two.ensures in
     let graft = rw c.as_slice.ensures at c.graft.ensures in
     let put : WasPut c.args.change.now c.args.store _ _ _ _ c.args.view.now c.in-Ok-view_of.below c.find_past.result c.saturating_sub-i.result c.in-Ok.slot c.in-Ok-load.page
-        c.in-Ok-Two.left (bound_at c.in-Ok-Two.key c.in-Ok-Two.birth) c.in-Ok-Two.right c.in-Ok-put_two.fresh = record {
+    c.in-Ok-Two.left (bound_at c.in-Ok-Two.key c.in-Ok-Two.birth) c.in-Ok-Two.right c.in-Ok-put_two.fresh = record {
       inner = inner;
       begins = begins;
       at = c.saturating_sub-i.ensures;

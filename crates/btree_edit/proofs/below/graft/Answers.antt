@@ -1,9 +1,7 @@
-use Rattle.std.proofs.Common.{◌≡◌, List, map, refl, arith, subst, ℕ}
-use Rattle.btree_page.specs.Content.{Entry, Fits, inner_entry}
+use Rattle.std.proofs.Common.{◌≡◌, map}
+use Rattle.btree_page.specs.Content.{inner_entry}
 use Rattle.btree_page.specs.Cells.{entry_of}
-use Rattle.std.specs.Prelude.{false}
 use Rattle.std.specs.List.{insert}
-use Rattle.btree_edit.specs.Made.{IsNearly}
 use Rattle.btree_edit.specs.Edits.{bound_at}
 use Rattle.btree_edit.proofs.Placed.{grafted, made_any}
 use Rattle.btree_edit.proofs.below.graft.Goals as goal
@@ -11,9 +9,9 @@ use Rattle.btree_edit.proofs.below.graft.Goals.{then-here-at-via-then-here-at, t
 
 pub returns-then-here-at : goal.returns-then-here-at
 returns-then-here-at c = λ f g. elim c.then-here-at.branch [
-    then-here-at-via-then-here-at w ↦ w.if-here-at.true (f c.find_in-here.result c.find_in-here.ensures)
+  | then-here-at-via-then-here-at w ↦ w.if-here-at.true (f c.find_in-here.result c.find_in-here.ensures)
   | then-here-at-via-else-here-at+then-past-at w ↦ w.if-past-at.true (g c.find_past-past.result c.find_past-past.ensures)
-  ]
+]
 
 pub pages_of-requires : goal.pages_of-requires
 pages_of-requires c =

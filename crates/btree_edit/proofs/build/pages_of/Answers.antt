@@ -2,7 +2,6 @@ use Rattle.std.proofs.Common.{◌<◌, ◌==◌, None, arith, map}
 use Rattle.btree_page.specs.Cells.{entry_of}
 use Rattle.btree_edit.specs.Made.{size}
 use Rattle.btree_edit.proofs.Parting.{short_cells, halves_of, split_any}
-
 use Rattle.btree_edit.proofs.build.pages_of.Goals as goal
 
 pub bytes_of-requires-clause-short : goal.bytes_of-requires-clause-short

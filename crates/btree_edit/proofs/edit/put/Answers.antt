@@ -1,4 +1,4 @@
-use Rattle.std.proofs.Common.{◌≡◌, ◌∙◌, inl, arith}
+use Rattle.std.proofs.Common.{inl, arith}
 use Rattle.btree_edit.specs.Edits.{bound_at}
 use Rattle.btree_edit.specs.Changes.{given_of}
 use Rattle.btree_edit.proofs.Tops.{WasRead, root_misshown, tree_fault, tree_changed, tree_written, tree_misses, tree_raised, root_changed, root_written, root_full, root_raised, put_cause, raise_cause}
@@ -66,7 +66,7 @@ returns-in-Ok-raise g c =
       goes_on = goes_then _ _ _ (goes_only _ _ c.in-Ok.ensures.only_reads) (goes_then _ _ _ done.goes_on raises.goes_on);
       answer = (
         tree_raised c.args.change.now c.args.store _ _ _ _ c.in-Ok-view_of.view c.in-Ok.page c.in-Ok-Two.left (bound_at c.in-Ok-Two.key c.in-Ok-Two.birth) c.in-Ok-Two.right read done.goes_on done.answer.1 raises
-        (g.met.G.Pages.sound c.args.pages.now) (omega (arith, c.level-level.ensures.level, c.if-level-eq-HEIGHT.false, c.in-Ok-view_of.ensures.shown.to)) c.requires.store,
+            (g.met.G.Pages.sound c.args.pages.now) (omega (arith, c.level-level.ensures.level, c.if-level-eq-HEIGHT.false, c.in-Ok-view_of.ensures.shown.to)) c.requires.store,
         root_raised c.args.change.now c.args.store _ _ _ _ c.in-Ok-view_of.view c.in-Ok.page c.in-Ok-Two.left (bound_at c.in-Ok-Two.key c.in-Ok-Two.birth) c.in-Ok-Two.right read done.goes_on done.answer.1 raises,
       );
     }

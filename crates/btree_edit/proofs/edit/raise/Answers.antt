@@ -1,4 +1,3 @@
-use Rattle.std.proofs.Common.{arith}
 use Rattle.btree_edit.specs.Edits.{bound_at}
 use Rattle.btree_edit.proofs.Tops.{raised_so, fails_write}
 use Rattle.btree_edit.proofs.edit.raise.Goals as goal

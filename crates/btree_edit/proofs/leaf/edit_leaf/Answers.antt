@@ -1,5 +1,3 @@
-use Rattle.btree_edit.specs.declared.change.Change.{Change}
-use Rattle.btree_edit.specs.Changes.{cells_edit, misses_of, Answers, EditsLeaf}
 use Rattle.btree_edit.proofs.leaf.edit_leaf.Goals as goal
 
 pub returns-in-Ok : goal.returns-in-Ok

@@ -1,4 +1,3 @@
-use Rattle.std.proofs.Common.{arith, Ok}
 use Rattle.btree_edit.specs.Changes.{InsertsCell}
 use Rattle.btree_edit.proofs.Placed.{refused_so, inserted_leaf, answered_so}
 use Rattle.btree_edit.proofs.leaf.insert_into.Goals as goal
