@@ -1,0 +1,6 @@
+pub mod EntryLaws
+pub mod Handles
+pub mod Lists
+pub mod Bodies
+pub mod Readings
+pub mod Rewritten
