@@ -8,18 +8,13 @@ use Rattle.std.specs.Ordering.{nat_cmp}
 use Rattle.std.specs.Cmp.Lexicographic.{slice_cmp}
 use Rattle.std.specs.declared.cmp.Ordering.{Ordering}
 use Rattle.std.specs.declared.cmp.Ordering.TheVariants.{Less, Equal, Greater}
-use Rattle.std.specs.List.{remove}
-use Rattle.std.proofs.lemmas.List.{length-map}
-use Rattle.btree_page.specs.declared.cell.Cell.{Cell}
-use Rattle.btree_page.specs.Cells.{entry_of}
-use Rattle.btree_page.specs.Content.{Bound, bound_cmp, Entry, bound_of, Content, IsPage, Spells}
+use Rattle.btree_page.specs.Content.{Bound, bound_cmp, Entry, bound_of}
 use Rattle.btree_search.specs.declared.aim.Aim.{Aim}
 use Rattle.btree_search.specs.declared.aim.Aim.TheVariants.{AtOrAfter, After}
 use Rattle.btree_search.specs.Aim.{is_sought}
 use Rattle.btree_search.specs.Find.{seeks, BeginsAt}
 use Rattle.btree_search.proofs.Order.{bound_total}
-use Rattle.btree_edit.specs.Below.{RemovesCell}
-use Rattle.btree_edit.proofs.Lists.{there, map_remove, removed_rules}
+use Rattle.btree_edit.proofs.Lists.{there}
 
 -- places that compare as equal are equal
 pub bound_exact : (a b : Bound) → bound_cmp a b ≡ Equal → a ≡ b
@@ -85,21 +80,3 @@ found_at pair cells at past h k isnt =
                 contrary Equal a b = cc
                 contrary Greater a b = cc
 
--- a leaf is a page without the cell at an index
-pub leaf_without : (content : Content) (xs ys zs : List Cell) (at : ℕ) → content.level ≡ 0 → IsPage content → map entry_of xs ≡ content.cells
-    → ys ≡ remove xs at → zs ≡ ys → at < length content.cells
-    → (map entry_of zs ≡ remove content.cells at) × IsPage (record { level = 0; cells = map entry_of zs })
-leaf_without content xs ys zs at leaf rules all gone same lt =
-    let left : map entry_of zs ≡ remove content.cells at =
-    ap (λ (cs : List Cell). map entry_of cs) (same ∙ gone) ∙ (map_remove entry_of xs at ∙ ap (λ (es : List Entry). remove es at) all) in
-    let whole : content ≡ record { level = 0; cells = content.cells } = ap (λ (n : ℕ). let made : Content = record { level = n; cells = content.cells } in made) leaf in
-    (left, subst (λ (es : List Entry). IsPage (record { level = 0; cells = es })) (sym left) (removed_rules content.cells at lt (subst (λ (c : Content). IsPage c) whole rules)))
-
-pub counted : (xs : List Cell) (es : List Entry) → map entry_of xs ≡ es → length xs ≡ length es
-counted xs es is = sym (length-map xs entry_of) ∙ ap (λ (ys : List Entry). length ys) is
-
-pub leaf_so : (pair : Bound) (cells : List Entry) (at past : ℕ) (zs : List Cell) (page : List ℕ) → BeginsAt AtOrAfter pair cells at → BeginsAt After pair cells past
-    → at ≢ past → map entry_of zs ≡ remove cells at → Spells (record { level = 0; cells = map entry_of zs }) page → RemovesCell pair cells page
-leaf_so pair cells at past zs page h k isnt left spelled =
-    let found = found_at pair cells at past h k isnt in
-    record { at = at; within = found.0; place = found.1; spelled = subst (λ (es : List Entry). Spells (record { level = 0; cells = es }) page) left spelled }

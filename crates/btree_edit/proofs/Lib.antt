@@ -1,6 +1,11 @@
+pub mod Divided
+pub mod Grafts
+pub mod Least
 pub mod Leaves
 pub mod Lists
 pub mod Opened
+pub mod Parting
+pub mod Placed
 pub mod Rebuilt
 pub mod Seats
 pub mod States

@@ -8,10 +8,7 @@ use Rattle.btree_page.specs.declared.cell.Cell.{Cell}
 use Rattle.btree_page.specs.Cells.{entry_of}
 use Rattle.btree_page.proofs.Cells.{cells_many}
 use Rattle.btree_search.proofs.Order.{bound_total}
-
--- how many bytes cells take
-abbrev pub size : List Entry → ℕ
-size cells = length (flat_map entry_spelling cells)
+use Rattle.btree_edit.specs.Made.{size}
 
 pub size_of_page : (level : ℕ) (cells : List Entry) → length (spelling (record { level = level; cells = cells })) ≡ 4 + size cells
 size_of_page level cells = omega (arith, length-append (head level (length cells)) (flat_map entry_spelling cells))
@@ -59,27 +56,6 @@ pub above_before : (before : Option Bound) (e : Entry) (ys : List Entry) → Fol
 above_before before e [] h k = tt
 above_before None e (y ∷ ys) h k = (k.0, (tt, k.1.1))
 above_before (Some b) e (y ∷ ys) h k = (k.0, (bound_total.trans b (bound_of e) (bound_of y) h k.1.0, k.1.1))
-
-pub removed_rules : (cells : List Entry) (at : ℕ) → at < length cells → IsPage (record { level = 0; cells = cells })
-    → IsPage (record { level = 0; cells = remove cells at })
-removed_rules cells at lt rules =
-    let x = at_place cells at lt in
-    let parts = parts_of_cells true None (take at cells) (x.0 ∷ drop (suc at) cells) (subst (λ (cs : List Entry). AreCells true None cs) x.2 rules.cells) in
-    record {
-      level = omega arith;
-      cells = joined_cells true None (take at cells) (drop (suc at) cells) parts.0 (above_before _ x.0 (drop (suc at) cells) parts.1.1.0 parts.1.1.1);
-      least = λ up. absurd (omega arith);
-      size = omega (
-        arith,
-        rules.size,
-        size_of_page 0 cells,
-        size_of_page 0 (remove cells at),
-        ap size x.2,
-        size-append (take at cells) (x.0 ∷ drop (suc at) cells),
-        size-append (take at cells) (drop (suc at) cells),
-        length-append (entry_spelling x.0) (flat_map entry_spelling (drop (suc at) cells)),
-      );
-    }
 
 -- ---- cells that are put into a page one by one
 

@@ -14,8 +14,8 @@ use Rattle.btree_page.proofs.Trees.{among_left, among_right, among_either, keeps
 use Rattle.btree_search.specs.declared.aim.Aim.TheVariants.{After}
 use Rattle.btree_search.specs.Aim.{is_sought}
 use Rattle.btree_search.specs.Find.{seeks}
-use Rattle.btree_search.proofs.Order.{turned}
-use Rattle.btree_search.proofs.Ranges.{below_from, raised, subtree_in, kids_within, all_under, under_all}
+use Rattle.btree_search.proofs.Order.{bound_total, turned}
+use Rattle.btree_search.proofs.Ranges.{below_from, upto, raised, subtree_in, kids_within, all_under, under_all}
 use Rattle.btree_search.proofs.Parts.{not_both}
 use Rattle.btree_edit.specs.Edits.{Lacks}
 use Rattle.btree_edit.proofs.Opened.{kids_keep, kids_present}
@@ -26,6 +26,18 @@ Falls pair zero [] = Unit {0}
 Falls pair zero (next ∷ rest) = IsBelow pair next.bound
 Falls pair (suc i) [] = ⊥
 Falls pair (suc i) (next ∷ rest) = (bound_cmp next.bound pair ≢ Greater) × Falls pair i rest
+
+-- the low end and the high end of the range of a child
+abbrev pub from_of : ℕ → List Child → Bound → Bound
+from_of zero rest low = low
+from_of (suc i) [] low = low
+from_of (suc i) (next ∷ rest) low = from_of i rest next.bound
+
+abbrev pub to_of : ℕ → List Child → Option Bound → Option Bound
+to_of zero [] high = high
+to_of zero (next ∷ rest) high = Some next.bound
+to_of (suc i) [] high = high
+to_of (suc i) (next ∷ rest) high = to_of i rest high
 
 -- a slot of a sibling, before or behind
 abbrev pub Beside : Slot → List Slot → List Slot → Type 0
@@ -50,6 +62,9 @@ pub record Seat (p : PageMap) (level : ℕ) (pair : Bound) (i : ℕ) (rest : Lis
   pub lacks_after : Lacks pair after
   pub siblings : (s : Slot) → Beside s slots_before slots_after → IsSome (p s)
   pub apart : (s : Slot) → Beside s slots_before slots_after → Among s slots_here → ⊥
+  pub from_is : from ≡ from_of i rest low
+  pub to_is : to ≡ to_of i rest high
+  pub widens : (b : Bound) → IsIn from to b → IsIn low high b
   -- children in place of this one, over pages where its siblings stay
   pub rebuild : (q : PageMap) (more : List Child) (here' : List Quad) (slots' : List Slot)
       → Kids (Subtree q level) child from more to here' slots'
@@ -135,6 +150,9 @@ seat p level pair zero [] first low high quads slots b h rules within falls at =
   lacks_after = All-nil (λ r. quad_bound r ≢ pair);
   siblings = λ s beside. ⊎_elim (λ n. absurd n) (λ n. absurd n) beside;
   apart = λ s beside here. ⊎_elim (λ n. n) (λ n. n) beside;
+  from_is = refl;
+  to_is = refl;
+  widens = λ b h. h;
   rebuild = λ q more here' slots' kids same apart.
       kids_again q level first low high more (more ++ []) here' (here' ++ []) slots' (slots' ++ []) (sym (append-nil more)) (sym (append-nil here')) (sym (append-nil slots')) kids;
 }
@@ -158,6 +176,9 @@ seat p level pair zero (next ∷ rest) first low high quads slots b h rules with
       (kids_within p level rest next.slot next.bound high h.quads_right h.slots_right next.bound h.right rules.1.1 (raised low next.bound high rest rules.1.1 within.1));
   siblings = λ s beside. ⊎_elim (λ n. absurd n) (λ r. kids_present p level rest next.slot next.bound high h.quads_right h.slots_right h.right s r) beside;
   apart = λ s beside here. ⊎_elim (λ n. n) (λ r. h.apart.none s here r) beside;
+  from_is = refl;
+  to_is = refl;
+  widens = λ b k. record { from = k.from; to = λ end is. bound_total.trans b next.bound end (k.to next.bound refl) (within.0.to end is) };
   rebuild = λ q more here' slots' kids same apart.
       join_kids q level more next rest first low high here' h.quads_right slots' h.slots_right kids
       (kids_keep p q level rest next.slot next.bound high h.quads_right h.slots_right h.right (λ s r. same s (inr r)))
@@ -206,6 +227,9 @@ seat p level pair (suc i) (next ∷ rest) first low high quads slots b h rules w
           (λ l. ⊎_elim (λ near. h.apart.none s near (in_here s here)) (λ there. r.apart s (inl there) here) (among_either s h.slots_left r.slots_before l))
           (λ there. r.apart s (inr there) here)
           beside;
+      from_is = r.from_is;
+      to_is = r.to_is;
+      widens = λ b k. let wide = r.widens b k in record { from = upto low next.bound b within.0.from wide.from; to = wide.to };
       rebuild = λ q more here' slots' kids same apart.
           let near : (s : Slot) → Among s h.slots_left → Beside s (h.slots_left ++ r.slots_before) r.slots_after = λ s l. inl (among_left s h.slots_left r.slots_before l) in
           let wider : (s : Slot) → Beside s r.slots_before r.slots_after → Beside s (h.slots_left ++ r.slots_before) r.slots_after =

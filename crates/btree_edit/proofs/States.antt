@@ -43,7 +43,7 @@ goes_then a b c h k = record {
   extends = record { at = λ s held is. k.extends.at s held (h.extends.at s held is) };
 }
 
-extends_learns : (old new : ReadMap) (s : Slot) → Learns old new s → Extends old new
+pub extends_learns : (old new : ReadMap) (s : Slot) → Learns old new s → Extends old new
 extends_learns old new s h = record { at = λ t held is. ⊎_elim (λ same. here t held is same) (λ other. h.others t other ∙ is) (slot_cases t s) }
   where
     here : (t : Slot) (held : Option (List ℕ)) → old t ≡ Some held → t ≡ s → new t ≡ Some held

@@ -1,19 +1,27 @@
 -- What an edit makes of a page, and of what lies below it.
-use Rattle.std.specs.Prelude.{ℕ, zero, suc, ◌≡◌, ◌≤◌, List, [], ◌∷◌, length, map, Option, Some, Result, Ok, Err, All, slice_get, ◌<◌, ◌≢◌}
-use Rattle.std.specs.List.{remove}
+use Rattle.std.specs.Prelude.{ℕ, zero, suc, ◌≡◌, ◌≢◌, ◌⊎◌, ◌+◌, ◌<◌, ◌≤◌, List, [], ◌∷◌, ◌++◌, length, map, Option, Some, None, Result, Ok, Err, All, slice_get}
+use Rattle.std.specs.List.{insert}
 use Rattle.pair_types.specs.declared.slot.Slot.{Slot}
 use Rattle.pair_types.specs.declared.quad.Quad.{Quad}
+use Rattle.pair_types.specs.declared.fault.PageFault.{PageFault}
 use Rattle.pair_types.specs.declared.fault.PairFault.{PairFault}
+use Rattle.pair_types.specs.declared.fault.PairFault.TheVariants.{Odd, HeightFull, Page as PageGave}
 use Rattle.pair_types.specs.PageMaps.{PageMap, Agrees, over, latest}
-use Rattle.pair_types.specs.PageState.{PageState}
-use Rattle.btree_page.specs.Content.{Bound, Entry, Content, Spells, IsPage, bound_of, inner_entry}
-use Rattle.btree_page.specs.Tree.{IsIn, AllIn, quad_bound, quad_cell, Child, child_cell, Kids, Subtree}
+use Rattle.pair_types.specs.PageState.{PageState, no_memory}
+use Rattle.btree_page.specs.Content.{Bound, IsBelow, Entry, Content, Spells, IsPage, inner_entry}
+use Rattle.btree_page.specs.Tree.{IsIn, AllIn, Among, quad_bound, quad_cell, Child, child_cell, Kids, Subtree, least}
+use Rattle.btree_search.specs.declared.aim.Aim.TheVariants.{AtOrAfter, After}
+use Rattle.btree_search.specs.Find.{BeginsAt}
 use Rattle.btree_search.specs.Found.{HasCause}
 use Rattle.btree_search.specs.Walk.{InStores}
-use Rattle.btree_edit.specs.declared.below.Edited.{Edited}
-use Rattle.btree_edit.specs.declared.below.Edited.TheVariants.{Missing, Below, Page}
-use Rattle.btree_edit.specs.Edits.{Lacks}
+use Rattle.btree_edit.specs.declared.change.Change.{Change}
+use Rattle.btree_edit.specs.declared.change.Change.TheVariants.{Remove, Replace, Insert}
+use Rattle.btree_edit.specs.declared.outcome.Edited.{Edited}
+use Rattle.btree_edit.specs.declared.outcome.Edited.TheVariants.{Missing, Below, Page, Two}
+use Rattle.btree_edit.specs.Edits.{bound_at, Nothing, Lacks, IsLonger}
 use Rattle.btree_edit.specs.Edited.{Frame, GoesOn}
+use Rattle.btree_edit.specs.Made.{IsNearly, IsMadeOf}
+use Rattle.btree_edit.specs.Changes.{pair_of, edit_of, given_of, open_of, AreMade}
 
 -- ---- what lies below a page
 
@@ -75,41 +83,101 @@ IsNotMet Given pair old new content =
 abbrev pub StaysFrom : ℕ → PageState → PageState → Type 0
 StaysFrom level old new = (s : Slot) (c : Content) → Spells c (latest old.writes new.reads s) → level ≤ c.level → new.writes s ≡ old.writes s
 
+-- why a page may have more cells: a record came in, or a longer one
+abbrev pub Grows : Change → PageState → PageState → Content → Type 0
+Grows (Remove key birth) old new content = ⊥
+Grows (Replace q) old new content =
+    (under : PageMap) (low : Bound) (high : Option Bound) (quads : List Quad) (below : List Slot)
+    → IsMet Nothing (quad_bound q.now) old new content under low high quads below → IsLonger q.now quads
+Grows (Insert q) old new content = Unit {0}
+
 -- the page becomes this one
-pub record Becomes (Edit : List Quad → List Quad → Type 0) (Given : List Quad → Type 0) (store : Option ℕ) (pair : Bound) (old new : PageState) (content : Content) (page : List ℕ) : Type 0 where
+pub record Becomes (change : Change) (store : ℕ) (old new : PageState) (content : Content) (page : List ℕ) : Type 0 where
   pub cells : List Entry
   pub spelled : Spells (record { level = content.level; cells = cells }) page
-  pub fewer : length cells ≤ length content.cells
-  pub changes : ChangesTo Edit Given store pair old new content cells
+  pub few : (length cells ≤ length content.cells) ⊎ (Grows change old new content × (length cells ≤ length content.cells + 1))
+  pub changes : ChangesTo (edit_of change) (given_of change) (open_of change store) (pair_of change) old new content cells
 
-abbrev pub IsEdited : (List Quad → List Quad → Type 0) → (List Quad → Type 0) → Option ℕ → Bound → PageState → PageState → Content → Result Edited PairFault → Type 0
-IsEdited Edit Given store pair old new content (Ok Missing) = (new.writes ≡ old.writes) × LacksBelow Given pair old new content
-IsEdited Edit Given store pair old new content (Ok Below) =
-    StaysFrom content.level old new × ChangesTo Edit Given store pair old new content content.cells
-IsEdited Edit Given store pair old new content (Ok (Page page)) =
-    StaysFrom content.level old new × Becomes Edit Given store pair old new content page
-IsEdited Edit Given store pair old new content (Err fault) = HasCause old new (IsNotMet Given pair old new content) fault
+-- with these cells, two pages have edited records, the second one from this bound on
+pub record Parted (Edit : List Quad → List Quad → Type 0) (store : Option ℕ) (stores : ℕ) (p q : PageMap) (level : ℕ) (front : List Entry) (bound : Bound) (back : List Entry)
+    (low : Bound) (high : Option Bound) (quads : List Quad) (below : List Slot) : Type 0 where
+  pub after_left : List Quad
+  pub after_right : List Quad
+  pub reached_left : List Slot
+  pub reached_right : List Slot
+  pub edit : Edit quads (after_left ++ after_right)
+  pub in_stores : InStores stores q
+  pub above : IsBelow low bound
+  pub inside : IsIn low high bound
+  pub left : Bears q level front low (Some bound) after_left reached_left
+  pub right : Bears q level back bound high after_right reached_right
+  pub apart : (s : Slot) → Among s reached_left → Among s reached_right → ⊥
+  pub frame : Frame store p q below (reached_left ++ reached_right)
+
+abbrev pub PartsTo : (List Quad → List Quad → Type 0) → (List Quad → Type 0) → Option ℕ → Bound → PageState → PageState → Content → List Entry → Bound → List Entry → Type 0
+PartsTo Edit Given store pair old new content front bound back =
+    (under : PageMap) (low : Bound) (high : Option Bound) (quads : List Quad) (below : List Slot) → IsMet Given pair old new content under low high quads below
+    → Parted Edit store new.stores (over old.writes under) (over new.writes under) content.level front bound back low high quads below
+
+-- the page becomes two, the second one from this bound on
+pub record Divides (change : Change) (store : ℕ) (old new : PageState) (content : Content) (left : List ℕ) (bound : Bound) (right : List ℕ) : Type 0 where
+  pub front : List Entry
+  pub back : List Entry
+  pub left_page : Spells (record { level = content.level; cells = front }) left
+  pub right_page : Spells (record { level = content.level; cells = back }) right
+  pub key : length bound.key ≤ 264
+  pub above : IsBelow least bound
+  pub many : 0 < content.level → 27 ≤ length content.cells
+  pub grows : Grows change old new content
+  pub parts : PartsTo (edit_of change) (given_of change) (open_of change store) (pair_of change) old new content front bound back
+
+-- a change that may find nothing
+abbrev pub MayMiss : Change → Type 0
+MayMiss (Remove key birth) = Unit {0}
+MayMiss (Replace q) = Unit {0}
+MayMiss (Insert q) = ⊥
+
+abbrev pub IsEdited : Change → ℕ → PageState → PageState → Content → Result Edited PairFault → Type 0
+IsEdited change store old new content (Ok Missing) =
+    MayMiss change × (new.writes ≡ old.writes) × LacksBelow (given_of change) (pair_of change) old new content
+IsEdited change store old new content (Ok Below) =
+    StaysFrom content.level old new × ChangesTo (edit_of change) (given_of change) (open_of change store) (pair_of change) old new content content.cells
+IsEdited change store old new content (Ok (Page page)) =
+    StaysFrom content.level old new × Becomes change store old new content page
+IsEdited change store old new content (Ok (Two left key birth right)) =
+    StaysFrom content.level old new × Divides change store old new content left (bound_at key birth) right
+IsEdited change store old new content (Err fault) = HasCause old new (IsNotMet (given_of change) (pair_of change) old new content) fault
 
 -- what an edit below a page answers and leaves
-pub record EditsBelow (Edit : List Quad → List Quad → Type 0) (Given : List Quad → Type 0) (store : Option ℕ) (pair : Bound) (old new : PageState) (content : Content) (result : Result Edited PairFault) : Type 0 where
+pub record EditsBelow (change : Change) (store : ℕ) (old new : PageState) (content : Content) (result : Result Edited PairFault) : Type 0 where
   pub goes_on : GoesOn old new
-  pub answer : IsEdited Edit Given store pair old new content result
+  pub answer : IsEdited change store old new content result
 
--- nothing is given
-abbrev pub Nothing : List Quad → Type 0
-Nothing quads = Unit {0}
+-- ---- the parts of a page that was divided
 
--- ---- an edit of a leaf
+-- the left page lies in this slot, and the right one in a fresh slot of the store
+pub record PutsTwo (old new : PageState) (slot : Slot) (left : List ℕ) (store : ℕ) (fresh : Slot) (right : List ℕ) : Type 0 where
+  pub goes_on : GoesOn old new
+  pub in_store : fresh.store ≡ store
+  pub unwritten : old.writes fresh ≡ None
+  pub unread : old.reads fresh ≡ None
+  pub absent : new.reads fresh ≡ Some None
+  pub left_put : new.writes slot ≡ Some left
+  pub right_put : slot ≢ fresh → new.writes fresh ≡ Some right
+  pub others : (t : Slot) → t ≢ slot → t ≢ fresh → new.writes t ≡ old.writes t
+  pub other_reads : (t : Slot) → t ≢ slot → t ≢ fresh → new.reads t ≡ old.reads t
 
--- the page is a leaf of these cells without the one at this key and birth
-pub record RemovesCell (pair : Bound) (cells : List Entry) (page : List ℕ) : Type 0 where
-  pub at : ℕ
-  pub within : at < length cells
-  pub place : (e : Entry) → slice_get cells at ≡ Some e → bound_of e ≡ pair
-  pub spelled : Spells (record { level = 0; cells = remove cells at }) page
+-- a call over pages answered this fault, and what was read before is still known
+pub record GaveUp (old new : PageState) (fault : PageFault) : Type 0 where
+  pub goes_on : GoesOn old new
+  pub counted : fault ≢ no_memory → old.faults fault < new.faults fault
 
--- the record at the key and the birth is no more among the cells, or none was
-abbrev pub EditsLeaf : Bound → List Entry → Edited → Type 0
-EditsLeaf pair cells Missing = All (λ e. bound_of e ≢ pair) cells
-EditsLeaf pair cells Below = ⊥
-EditsLeaf pair cells (Page page) = RemovesCell pair cells page
+-- the cells with a child more at this index, in one page or two
+abbrev pub Grafts : Content → ℕ → Bound → Slot → Edited → Type 0
+Grafts content at bound child edited = AreMade content.level (λ cells. cells ≡ insert content.cells at (inner_entry bound.key bound.birth child)) edited
+
+-- the bound does not fall there between the cells, or memory ran out
+abbrev pub IsNoGraft : Content → ℕ → Bound → PairFault → Type 0
+IsNoGraft content at bound Odd = ((n : ℕ) → BeginsAt AtOrAfter bound content.cells n → n ≡ at) → ((n : ℕ) → BeginsAt After bound content.cells n → n ≡ at) → ⊥
+IsNoGraft content at bound HeightFull = ⊥
+IsNoGraft content at bound (PageGave fault) = fault ≡ no_memory

@@ -1,9 +1,11 @@
 -- What an edit does to every tree that agrees with what was read.
-use Rattle.std.specs.Prelude.{ℕ, ◌≡◌, ◌⊎◌, ◌≤◌, List, length, Option, Some, None}
+use Rattle.std.specs.Prelude.{ℕ, ◌≡◌, ◌≢◌, ◌⊎◌, ◌+◌, ◌<◌, ◌≤◌, List, length, Option, Some, None}
 use Rattle.pair_types.specs.declared.slot.Slot.{Slot}
 use Rattle.pair_types.specs.declared.quad.Quad.{Quad}
 use Rattle.pair_types.specs.PageMaps.{PageMap, Agrees, Extends, over, latest}
-use Rattle.pair_types.specs.PageState.{PageState, Lasts}
+use Rattle.pair_types.specs.PageState.{PageState, Lasts, no_memory}
+use Rattle.pair_types.specs.declared.fault.PairFault.{PairFault}
+use Rattle.pair_types.specs.declared.fault.PairFault.TheVariants.{Odd, HeightFull, Page}
 use Rattle.btree_page.specs.Content.{Bound, Content, Spells}
 use Rattle.btree_page.specs.Tree.{Among, root, IsFormed}
 use Rattle.btree_edit.specs.Edits.{Lacks}
@@ -27,10 +29,11 @@ pub record EditsTree (Edit : List Quad → List Quad → Type 0) (store : Option
   pub formed : IsFormed stores q after reached
   pub frame : Frame store p q slots reached
 
--- it is so in every tree over pages that agree with what is read, under what was written before
-abbrev pub EditsIn : (List Quad → List Quad → Type 0) → Option ℕ → PageState → PageState → Type 0
-EditsIn Edit store old new = (under : PageMap) → Agrees new.reads under → (quads : List Quad) (slots : List Slot)
-    → IsFormed new.stores (over old.writes under) quads slots
+-- it is so in every tree over pages that agree with what is read, under what was written before, if
+-- this much is given of its records
+abbrev pub EditsIn : (List Quad → List Quad → Type 0) → (List Quad → Type 0) → Option ℕ → PageState → PageState → Type 0
+EditsIn Edit Given store old new = (under : PageMap) → Agrees new.reads under → (quads : List Quad) (slots : List Slot)
+    → IsFormed new.stores (over old.writes under) quads slots → Given quads
     → EditsTree Edit store new.stores (over old.writes under) (over new.writes under) quads slots
 
 -- no such tree has a record at this key and birth, and nothing was written
@@ -39,17 +42,41 @@ pub record LacksIn (pair : Bound) (old new : PageState) : Type 0 where
   pub lacks : (under : PageMap) → Agrees new.reads under → (quads : List Quad) (slots : List Slot)
       → IsFormed new.stores (over old.writes under) quads slots → Lacks pair quads
 
--- no pages that agree with what is read, under what was written before, were a tree
-abbrev pub HadNoTree : PageState → PageState → Type 0
-HadNoTree old new = (under : PageMap) → Agrees new.reads under → (quads : List Quad) (slots : List Slot)
-    → IsFormed new.stores (over old.writes under) quads slots → ⊥
+-- no pages that agree with what is read, under what was written before, were a tree of which this
+-- much is given
+abbrev pub HadNoTree : (List Quad → Type 0) → PageState → PageState → Type 0
+HadNoTree Given old new = (under : PageMap) → Agrees new.reads under → (quads : List Quad) (slots : List Slot)
+    → IsFormed new.stores (over old.writes under) quads slots → Given quads → ⊥
 
 -- what every edit leaves: what was read before is still known
 pub record GoesOn (old new : PageState) : Type 0 where
   pub lasts : Lasts old new
   pub extends : Extends old.reads new.reads
 
--- the root page, as it read before and reads now, keeps its level, and has no cell more
+-- ---- the root page, as it read before and as it reads now
+
+-- it keeps its level, and has no cell more
 abbrev pub RootStays : PageState → PageState → Type 0
 RootStays old new = (before after : Content) → Spells before (latest old.writes new.reads root) → Spells after (latest new.writes new.reads root)
     → (after.level ≡ before.level) × (length after.cells ≤ length before.cells)
+
+-- it keeps its level with at most one cell more, or is one level higher with two cells
+abbrev pub RootGrows : PageState → PageState → Type 0
+RootGrows old new = (before after : Content) → Spells before (latest old.writes new.reads root) → Spells after (latest new.writes new.reads root)
+    → ((after.level ≡ before.level) × (length after.cells ≤ length before.cells + 1)) ⊎ ((after.level ≡ before.level + 1) × (length after.cells ≡ 2))
+
+-- it was of the highest level, and had many cells
+pub record IsFull (old new : PageState) : Type 0 where
+  pub content : Content
+  pub spelled : Spells content (latest old.writes new.reads root)
+  pub highest : content.level ≡ 64
+  pub many : 27 ≤ length content.cells
+
+-- ---- causes
+
+-- why an edit that may let the tree grow gives up: the pages were not those of a tree, or its root
+-- is full, or a call over pages answered this fault and counted it, unless it is want of memory
+abbrev pub HasPutCause : PageState → PageState → Type 0 → PairFault → Type 0
+HasPutCause old new no_tree Odd = no_tree
+HasPutCause old new no_tree HeightFull = IsFull old new
+HasPutCause old new no_tree (Page fault) = fault ≢ no_memory → old.faults fault < new.faults fault

@@ -1,5 +1,5 @@
 -- Edits of a list of records, of one record each.
-use Rattle.std.specs.Prelude.{ℕ, ◌≡◌, ◌≢◌, List, ◌∷◌, ◌++◌, All}
+use Rattle.std.specs.Prelude.{ℕ, ◌≡◌, ◌≢◌, ◌<◌, ◌≤◌, List, ◌∷◌, ◌++◌, length, All}
 use Rattle.pair_types.specs.declared.quad.Quad.{Quad}
 use Rattle.btree_page.specs.Content.{Bound}
 use Rattle.btree_page.specs.Tree.{quad_bound}
@@ -8,9 +8,18 @@ use Rattle.btree_page.specs.Tree.{quad_bound}
 abbrev pub bound_at : List ℕ → ℕ → Bound
 bound_at key birth = record { key = key; birth = birth }
 
+-- nothing is said of the records
+abbrev pub Nothing : List Quad → Type 0
+Nothing quads = Unit {0}
+
 -- no record stands at this key and birth
 abbrev pub Lacks : Bound → List Quad → Type 0
 Lacks pair quads = All (λ r. quad_bound r ≢ pair) quads
+
+-- a record within the limits of a page
+pub record IsRecord (q : Quad) : Type 0 where
+  pub key : length q.key ≤ 264
+  pub value : length q.value ≤ 1200
 
 -- the record at this key and birth goes; the others stay, in their order
 pub record Removes (pair : Bound) (old new : List Quad) : Type 0 where
@@ -20,3 +29,27 @@ pub record Removes (pair : Bound) (old new : List Quad) : Type 0 where
   pub was : old ≡ below ++ (gone ∷ above)
   pub place : quad_bound gone ≡ pair
   pub now : new ≡ below ++ above
+
+-- this record comes in the place of the one at its key and birth
+pub record Replaces (q : Quad) (old new : List Quad) : Type 0 where
+  pub below : List Quad
+  pub gone : Quad
+  pub above : List Quad
+  pub was : old ≡ below ++ (gone ∷ above)
+  pub place : quad_bound gone ≡ quad_bound q
+  pub now : new ≡ below ++ (q ∷ above)
+
+-- this record comes in; where it stands, the order of the records says
+pub record Inserts (q : Quad) (old new : List Quad) : Type 0 where
+  pub below : List Quad
+  pub above : List Quad
+  pub was : old ≡ below ++ above
+  pub now : new ≡ below ++ (q ∷ above)
+
+-- each record at the key and birth of this one has a shorter value
+abbrev pub IsLonger : Quad → List Quad → Type 0
+IsLonger q quads = All (λ r. quad_bound r ≡ quad_bound q → length r.value < length q.value) quads
+
+-- none has
+abbrev pub IsNoLonger : Quad → List Quad → Type 0
+IsNoLonger q quads = All (λ r. quad_bound r ≡ quad_bound q → length q.value ≤ length r.value) quads

@@ -1,22 +1,29 @@
 //! Pages made of cells.
 
-ghost use Rattle.std.specs.Prelude.{◌≡◌, ◌≤◌, ◌==◌, length, map, IfOk};
-ghost use Rattle.btree_page.specs.Content.{IsNext, IsPage, Spells, with_cell, spelling};
+ghost use Rattle.std.specs.Prelude.{◌≡◌, ◌<◌, ◌≤◌, ◌^◌, length, map, All, IfOk};
+ghost use Rattle.btree_page.specs.Content.{IsNext, IsPage, Spells, with_cell, spelling, entry_spelling};
 ghost use Rattle.btree_page.specs.Cells.{entry_of};
+ghost use Rattle.btree_edit.specs.Made.{size, headed, behind, IsShort, IsNearly, IsMiddle, IsTwo, IsMadeOf};
 
+use crate::outcome::Edited;
 use btree_page::{Cell, PageBuilder, PageView};
 use nfs3_types::NoMemory;
-use pair_types::Page;
+use pair_types::{Key, Page};
 use std::alloc::Global;
+
+/// How many bytes of cells a page holds.
+const CELL_BYTES: usize = 8188;
+
+/// About half of them.
+const HALF: usize = 4096;
 
 /// The cells of a page.
 pub(crate) fn cells_of<'a>(alloc: Global, view: &PageView<'a>) -> Result<Vec<Cell<'a>>, NoMemory>
     ensures cells { IfOk result (λ cells. map entry_of cells.items ≡ view.now.cells) }
     ensures rules { IsPage view.now }
 {
-    let count = view.count();
-    let mut cells = Vec::with_capacity(alloc, count)?;
-    for i in 0..count {
+    let mut cells = Vec::with_capacity(alloc, view.count())?;
+    for i in 0..view.count() {
         let cell = view.cell(i).unwrap();
         cells.push(cell)?;
     }
@@ -50,4 +57,104 @@ pub(crate) fn build(alloc: Global, level: u32, cells: &[Cell<'_>]) -> Result<Pag
         add(&mut builder, cell);
     }
     builder.finish()
+}
+
+/// The page of a level with these cells, of which the first one of an inner page loses its bound.
+fn build_behind(alloc: Global, level: u32, cells: &[Cell<'_>]) -> Result<Page, NoMemory>
+    requires some { 0 < length cells.now }
+    requires rules { IsPage (record { level = level; cells = behind (map entry_of cells.now) }) }
+    ensures { IfOk result (λ page. Spells (record { level = level; cells = behind (map entry_of cells.now) }) page) }
+{
+    let mut all = Vec::from_slice(alloc, cells)?;
+    all[0] = without_bound(&cells[0]);
+    build(alloc, level, &all)
+}
+
+/// A cell as the first one of its page.
+fn without_bound<'a>(cell: &Cell<'a>) -> Cell<'a>
+    ensures { entry_of result ≡ headed (entry_of cell.now) }
+{
+    match *cell {
+        Cell::Leaf { .. } => *cell,
+        Cell::Inner { child, .. } => Cell::Inner {
+            key: b"",
+            birth: 0,
+            child,
+        },
+    }
+}
+
+/// How many bytes a cell takes.
+fn size_of(cell: &Cell<'_>) -> usize
+    requires { IsShort (entry_of cell.now) }
+    ensures { result ≡ length (entry_spelling (entry_of cell.now)) }
+{
+    match *cell {
+        Cell::Leaf { key, value, .. } => 20 + key.len() + value.len(),
+        Cell::Inner { key, .. } => 22 + key.len(),
+    }
+}
+
+/// How many cells make up half of a page.
+fn middle_of(cells: &[Cell<'_>]) -> usize
+    requires { All IsShort (map entry_of cells.now) }
+    ensures { IsMiddle (map entry_of cells.now) result }
+{
+    let mut taken = 0;
+    for (i, cell) in cells.iter().enumerate() {
+        if taken >= HALF {
+            return i;
+        }
+        taken += size_of(cell);
+    }
+    cells.len()
+}
+
+/// How many bytes cells take.
+fn bytes_of(cells: &[Cell<'_>]) -> usize
+    requires short { All IsShort (map entry_of cells.now) }
+    requires few { size (map entry_of cells.now) < 2 ^ 32 }
+    ensures { result ≡ size (map entry_of cells.now) }
+{
+    let mut taken = 0;
+    for cell in cells {
+        taken += size_of(cell);
+    }
+    taken
+}
+
+/// Two pages, of which the second one begins with this cell.
+fn two(alloc: Global, left: Page, edge: &Cell<'_>, right: Page) -> Result<Edited, NoMemory>
+    ensures { IfOk result (λ edited. IsTwo left (entry_of edge.now) right edited) }
+{
+    match *edge {
+        Cell::Leaf { key, birth, .. } | Cell::Inner { key, birth, .. } => {
+            let key = Key::from_slice(alloc, key)?;
+            Ok(Edited::Two {
+                left,
+                key,
+                birth,
+                right,
+            })
+        }
+    }
+}
+
+/// The page of a level with these cells, or two where one has no room for them.
+pub(crate) fn pages_of(
+    alloc: Global,
+    level: u32,
+    cells: &[Cell<'_>],
+) -> Result<Edited, NoMemory>
+    requires { IsNearly level (map entry_of cells.now) }
+    ensures { IfOk result (λ edited. IsMadeOf level (map entry_of cells.now) edited) }
+{
+    if bytes_of(cells) <= CELL_BYTES {
+        let page = build(alloc, level, cells)?;
+        return Ok(Edited::Page(page));
+    }
+    let (front, back) = cells.split_at(middle_of(cells));
+    let left = build(alloc, level, front)?;
+    let right = build_behind(alloc, level, back)?;
+    two(alloc, left, &back[0], right)
 }

@@ -1,26 +1,56 @@
 //! Edits of one leaf.
 
-ghost use Rattle.std.specs.Prelude.{◌≡◌, IfOk};
-ghost use Rattle.btree_page.specs.Content.{IsPage};
-ghost use Rattle.btree_edit.specs.Below.{EditsLeaf};
-ghost use Rattle.btree_edit.specs.Edits.{bound_at};
+ghost use Rattle.std.specs.Prelude.{◌≡◌, ◌≤◌, length, MatchResult, IfOk};
+ghost use Rattle.btree_page.specs.Content.{Fits, leaf_entry};
+ghost use Rattle.std.specs.Prelude.{true};
+ghost use Rattle.btree_page.specs.Tree.{quad_bound, quad_cell};
+ghost use Rattle.btree_page.specs.Cells.{entry_of};
+ghost use Rattle.btree_edit.specs.Edits.{bound_at, IsRecord};
+ghost use Rattle.btree_edit.specs.Changes.{Answers, FitsChange, RemovesCell, ReplacesCell, InsertsCell, IsMissing, IsRefused, EditsLeaf};
 
-use crate::below::Edited;
-use crate::build::{build, cells_of};
-use btree_page::PageView;
+use crate::build::{cells_of, pages_of};
+use crate::change::Change;
+use crate::outcome::Edited;
+use btree_page::{Cell, PageView};
 use btree_search::{find_in, find_past};
 use nfs3_types::NoMemory;
+use pair_types::{PairFault, Quad};
 use std::alloc::Global;
 
-/// Removes the record at a key and a birth from a leaf, if it stands there.
-pub(crate) fn remove_from(
+/// A cell of these parts.
+fn leaf_cell<'a>(key: &'a [u8], birth: u64, death: u64, value: &'a [u8]) -> Cell<'a>
+    requires key { length key.now ≤ 264 }
+    requires value { length value.now ≤ 1200 }
+    ensures cell { entry_of result ≡ leaf_entry key.now birth death value.now }
+    ensures fits { Fits true (leaf_entry key.now birth death value.now) }
+{
+    Cell::Leaf {
+        key,
+        birth,
+        death,
+        value,
+    }
+}
+
+/// A record as a cell.
+fn cell_of(q: &Quad) -> Cell<'_>
+    requires { IsRecord q.now }
+    ensures cell { entry_of result ≡ quad_cell q.now }
+    ensures fits { Fits true (quad_cell q.now) }
+{
+    leaf_cell(q.key.as_slice(), q.birth, q.death, q.value.as_slice())
+}
+
+/// Removes the record at a key and a birth, if it stands there.
+fn remove_from(
     alloc: Global,
     view: &PageView<'_>,
     key: &[u8],
     birth: u64,
 ) -> Result<Edited, NoMemory>
     requires { view.now.level ≡ 0 }
-    ensures { IfOk result (λ edited. EditsLeaf (bound_at key.now birth) view.now.cells edited) }
+    ensures { IfOk result (λ edited. Answers (RemovesCell (bound_at key.now birth) view.now.cells)
+        (IsMissing (bound_at key.now birth) view.now.cells) edited) }
 {
     let at = find_in(view, key, birth);
     if at == find_past(view, key, birth) {
@@ -28,6 +58,69 @@ pub(crate) fn remove_from(
     }
     let mut cells = cells_of(alloc, view)?;
     cells.remove(at);
-    let page = build(alloc, 0, &cells)?;
-    Ok(Edited::Page(page))
+    pages_of(alloc, 0, &cells)
+}
+
+/// Puts a record in the place of the one at its key and birth, if one stands there.
+fn replace_in<'a>(alloc: Global, view: &PageView<'a>, q: &'a Quad) -> Result<Edited, NoMemory>
+    requires leaf { view.now.level ≡ 0 }
+    requires fits { IsRecord q.now }
+    ensures { IfOk result (λ edited. Answers (ReplacesCell q.now view.now.cells)
+        (IsMissing (quad_bound q.now) view.now.cells) edited) }
+{
+    let at = find_in(view, q.key.as_slice(), q.birth);
+    if at == find_past(view, q.key.as_slice(), q.birth) {
+        return Ok(Edited::Missing);
+    }
+    let mut cells = cells_of(alloc, view)?;
+    cells[at] = cell_of(q);
+    pages_of(alloc, 0, &cells)
+}
+
+/// Puts a record in, or answers `Odd` where one stands at its key and birth.
+fn insert_into<'a>(alloc: Global, view: &PageView<'a>, q: &'a Quad) -> Result<Edited, PairFault>
+    requires leaf { view.now.level ≡ 0 }
+    requires fits { IsRecord q.now }
+    ensures { MatchResult result
+        (λ edited. Answers (InsertsCell q.now view.now.cells) ⊥ edited)
+        (λ fault. IsRefused (quad_bound q.now) view.now.cells fault) }
+{
+    let at = find_in(view, q.key.as_slice(), q.birth);
+    if at != find_past(view, q.key.as_slice(), q.birth) {
+        return Err(PairFault::Odd);
+    }
+    let mut cells = match cells_of(alloc, view) {
+        Ok(cells) => cells,
+        Err(fault) => return Err(PairFault::from(fault)),
+    };
+    if let Err(fault) = cells.insert(at, cell_of(q)) {
+        return Err(PairFault::from(NoMemory::from(fault)));
+    }
+    match pages_of(alloc, 0, &cells) {
+        Ok(edited) => Ok(edited),
+        Err(fault) => Err(PairFault::from(fault)),
+    }
+}
+
+/// Edits a leaf.
+pub(crate) fn edit_leaf<'a>(
+    alloc: Global,
+    view: &PageView<'a>,
+    change: &Change<'a>,
+) -> Result<Edited, PairFault>
+    requires leaf { view.now.level ≡ 0 }
+    requires fits { FitsChange change.now }
+    ensures { EditsLeaf change.now view.now.cells result }
+{
+    match change {
+        Change::Remove { key, birth } => match remove_from(alloc, view, key, *birth) {
+            Ok(edited) => Ok(edited),
+            Err(fault) => Err(PairFault::from(fault)),
+        },
+        Change::Replace(q) => match replace_in(alloc, view, q) {
+            Ok(edited) => Ok(edited),
+            Err(fault) => Err(PairFault::from(fault)),
+        },
+        Change::Insert(q) => insert_into(alloc, view, q),
+    }
 }

@@ -1,17 +1,20 @@
 //! Edits of a tree of versioned records that lies in pages.
 //!
-//! It promises that [`remove`] is one edit of the list of records for which the pages stand, that the
-//! pages are a tree afterwards, and which of them may have changed. On pages that make no tree it
-//! ends too, and says so only where no tree agrees with what was read.
+//! It promises that [`insert`], [`remove`] and [`replace`] are each one edit of the list of records
+//! for which the pages stand, that the pages are a tree afterwards, which of them may have changed,
+//! and how far the root may grow. On pages that make no tree they end too, and say so only where no
+//! tree agrees with what was read.
 //! It stands on `btree_search`, `btree_page` and `pair_types`.
 #![tactic(auto)]
 
 mod below;
 mod build;
+mod change;
 mod edit;
 mod leaf;
+mod outcome;
 
-pub use edit::remove;
+pub use edit::{insert, remove, replace};
 
 #[cfg(test)]
 mod tests;

@@ -1,9 +1,10 @@
-ghost use Rattle.std.specs.Prelude.{◌≡◌};
+ghost use Rattle.std.specs.Prelude.{◌≡◌, ◌≤◌, length, IfOk};
+ghost use Rattle.btree_edit.specs.Edits.{IsRecord};
 
 use super::*;
 use btree_page::PageBuilder;
-use btree_search::seek;
-use pair_types::{MemPages, PairFault, Slot};
+use btree_search::{next, seek};
+use pair_types::{Key, MemPages, PairFault, Quad, Slot, Value};
 use std::alloc::Global;
 use std::test::*;
 
@@ -60,5 +61,50 @@ fn pages_that_are_no_tree_are_odd(rt: HostRuntime) -> Result<(), Fail> {
     let alloc = rt.alloc();
     let mut nothing = MemPages::new(alloc, 1);
     assert!(rt; matches!(remove(alloc, &mut nothing, b"a", 5), Err(PairFault::Odd)));
+    Ok(())
+}
+
+/// A record of a key and of a value of this byte.
+fn record(alloc: Global, key: &[u8], value: &[u8]) -> Result<Quad, Fail>
+    requires key { length key.now ≤ 264 }
+    requires value { length value.now ≤ 1200 }
+    ensures { IfOk result (λ q. IsRecord q) }
+{
+    let key = Key::from_slice(alloc, key)?;
+    let value = Value::from_slice(alloc, value)?;
+    Ok(Quad {
+        key,
+        birth: 1,
+        death: 9,
+        value,
+    })
+}
+
+#[test]
+fn many_records_come_in_and_every_other_one_goes(rt: HostRuntime) -> Result<(), Fail> {
+    let alloc = rt.alloc();
+    let mut pages = MemPages::new(alloc, 1);
+    pages.set(slot(0), PageBuilder::new(alloc, 0)?.finish()?)?;
+    for n in 0u16..2000 {
+        let key = format!(in alloc; "{n:04}")?;
+        assert!(rt; key.len() == 4);
+        let q = record(alloc, key.as_bytes(), &[b'v'; 100])?;
+        insert(alloc, &mut pages, &q, 0)?;
+    }
+    for n in 0u16..1000 {
+        let key = format!(in alloc; "{:04}", 2 * n + 1)?;
+        assert!(rt; remove(alloc, &mut pages, key.as_bytes(), 1)?);
+        assert!(rt; !remove(alloc, &mut pages, key.as_bytes(), 1)?);
+    }
+    let found = seek(alloc, &mut pages, b"0001", 1)?;
+    assert!(rt; found.map(|q| q.key.as_slice() == b"0002".as_slice()) == Some(true));
+    assert!(rt; next(alloc, &mut pages, b"1998", 1)?.is_none());
+    let longer = record(alloc, b"0002", &[b'w'; 1200])?;
+    assert!(rt; replace(alloc, &mut pages, &longer, 0)?);
+    let found = seek(alloc, &mut pages, b"0001", 1)?;
+    assert_eq!(rt; found.map(|q| q.value.len()), Some(1200));
+    let lacking = record(alloc, b"0003", b"")?;
+    assert!(rt; !replace(alloc, &mut pages, &lacking, 0)?);
+    assert!(rt; matches!(insert(alloc, &mut pages, &longer, 0), Err(PairFault::Odd)));
     Ok(())
 }

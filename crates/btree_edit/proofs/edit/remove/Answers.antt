@@ -1,49 +1,58 @@
-use Rattle.std.proofs.Common.{None}
-use Rattle.btree_edit.specs.Edits.{bound_at, Removes}
-use Rattle.btree_edit.proofs.Tops.{root_misshown, tree_fault, tree_lacks, tree_changed, tree_written, root_missing, root_changed, root_written, goes_written, goes_unwritten}
+use Rattle.btree_edit.specs.Edits.{Nothing}
+use Rattle.btree_edit.proofs.Tops.{WasRead, root_misshown, tree_fault, tree_changed, tree_written, tree_misses, root_changed, root_missing, root_kept_written}
+use Rattle.btree_edit.proofs.States.{goes_only, goes_then, goes_write, goes_gives_up}
 use Rattle.btree_edit.proofs.edit.remove.Goals as goal
 
 pub returns-in-Err-view_of-clause-fault : goal.returns-in-Err-view_of-clause-fault
-returns-in-Err-view_of-clause-fault g c = root_misshown _ _ c.in-Ok.page c.in-Err-view_of.fault c.in-Ok.ensures.page c.in-Ok.ensures.only_reads c.in-Err-view_of.ensures.odd c.in-Err-view_of.ensures.not_shown
+returns-in-Err-view_of-clause-fault g c = root_misshown Nothing _ _ c.in-Ok.page c.in-Err-view_of.fault c.in-Ok.ensures.page c.in-Ok.ensures.only_reads c.in-Err-view_of.ensures.odd c.in-Err-view_of.ensures.not_shown
 
 pub returns-in-Ok-Missing-clause-lacking : goal.returns-in-Ok-Missing-clause-lacking
 returns-in-Ok-Missing-clause-lacking g c =
+    let read : WasRead _ _ c.in-Ok-view_of.view c.in-Ok.page = record { reads = c.in-Ok.ensures.page; only = c.in-Ok.ensures.only_reads; shown = c.in-Ok-view_of.ensures.shown } in
     let done = rw c.in-Ok-Missing.field-0-is at c.in-Ok-Missing.ensures in
-    λ _. tree_lacks (Removes (bound_at c.args.key.now c.args.birth)) None (bound_at c.args.key.now c.args.birth) _ _ _ c.in-Ok-view_of.view c.in-Ok.page c.in-Ok.ensures.page c.in-Ok-view_of.ensures.shown done
+    λ _. tree_misses _ _ _ _ _ c.in-Ok-view_of.view c.in-Ok.page read done
 
 pub returns-in-Ok-Missing-clause-root : goal.returns-in-Ok-Missing-clause-root
 returns-in-Ok-Missing-clause-root g c =
+    let read : WasRead _ _ c.in-Ok-view_of.view c.in-Ok.page = record { reads = c.in-Ok.ensures.page; only = c.in-Ok.ensures.only_reads; shown = c.in-Ok-view_of.ensures.shown } in
     let done = rw c.in-Ok-Missing.field-0-is at c.in-Ok-Missing.ensures in
-    root_missing (Removes (bound_at c.args.key.now c.args.birth)) None (bound_at c.args.key.now c.args.birth) _ _ _ c.in-Ok-view_of.view c.in-Ok.page c.in-Ok.ensures.page done
+    root_missing _ _ _ _ _ c.in-Ok-view_of.view c.in-Ok.page read done
 
 pub returns-in-Ok-Below-clause-removed : goal.returns-in-Ok-Below-clause-removed
 returns-in-Ok-Below-clause-removed g c =
+    let read : WasRead _ _ c.in-Ok-view_of.view c.in-Ok.page = record { reads = c.in-Ok.ensures.page; only = c.in-Ok.ensures.only_reads; shown = c.in-Ok-view_of.ensures.shown } in
     let done = rw c.in-Ok-Below.field-0-is at c.in-Ok-Below.ensures in
-    λ _. tree_changed (Removes (bound_at c.args.key.now c.args.birth)) None (bound_at c.args.key.now c.args.birth) _ _ _ c.in-Ok-view_of.view c.in-Ok.page c.in-Ok.ensures.page c.in-Ok-view_of.ensures.shown done
+    λ _. tree_changed _ _ _ _ _ c.in-Ok-view_of.view c.in-Ok.page read done
 
 pub returns-in-Ok-Below-clause-root : goal.returns-in-Ok-Below-clause-root
 returns-in-Ok-Below-clause-root g c =
+    let read : WasRead _ _ c.in-Ok-view_of.view c.in-Ok.page = record { reads = c.in-Ok.ensures.page; only = c.in-Ok.ensures.only_reads; shown = c.in-Ok-view_of.ensures.shown } in
     let done = rw c.in-Ok-Below.field-0-is at c.in-Ok-Below.ensures in
-    root_changed (Removes (bound_at c.args.key.now c.args.birth)) None (bound_at c.args.key.now c.args.birth) _ _ _ c.in-Ok-view_of.view c.in-Ok.page c.in-Ok.ensures.page c.in-Ok-view_of.ensures.shown done
+    root_changed _ _ _ _ _ c.in-Ok-view_of.view c.in-Ok.page read done
 
 pub returns-in-Ok-write-clause-removed : goal.returns-in-Ok-write-clause-removed
 returns-in-Ok-write-clause-removed g c =
+    let read : WasRead _ _ c.in-Ok-view_of.view c.in-Ok.page = record { reads = c.in-Ok.ensures.page; only = c.in-Ok.ensures.only_reads; shown = c.in-Ok-view_of.ensures.shown } in
     let done = rw c.in-Ok-Page.field-0-is at c.in-Ok-Page.ensures in
-    λ _. tree_written (Removes (bound_at c.args.key.now c.args.birth)) None (bound_at c.args.key.now c.args.birth) _ _ _ _ c.in-Ok-view_of.view c.in-Ok.page c.in-Ok-Page.page c.in-Ok.ensures.page c.in-Ok-view_of.ensures.shown done c.in-Ok-write.ensures
+    λ _. tree_written _ _ _ _ _ _ c.in-Ok-view_of.view c.in-Ok.page c.in-Ok-Page.page read done c.in-Ok-write.ensures
 
 pub returns-in-Ok-write-clause-goes_on : goal.returns-in-Ok-write-clause-goes_on
 returns-in-Ok-write-clause-goes_on g c =
-    goes_written (Removes (bound_at c.args.key.now c.args.birth)) None (bound_at c.args.key.now c.args.birth) _ _ _ _ c.in-Ok-view_of.view c.in-Ok-Page.page c.in-Ok-Page.field-0 c.in-Ok.ensures.only_reads c.in-Ok-Page.ensures c.in-Ok-write.ensures
+    let done = rw c.in-Ok-Page.field-0-is at c.in-Ok-Page.ensures in
+    goes_then _ _ _ (goes_only _ _ c.in-Ok.ensures.only_reads) (goes_then _ _ _ done.goes_on (goes_write _ _ _ _ c.in-Ok-write.ensures))
 
 pub returns-in-Ok-write-clause-root : goal.returns-in-Ok-write-clause-root
 returns-in-Ok-write-clause-root g c =
+    let read : WasRead _ _ c.in-Ok-view_of.view c.in-Ok.page = record { reads = c.in-Ok.ensures.page; only = c.in-Ok.ensures.only_reads; shown = c.in-Ok-view_of.ensures.shown } in
     let done = rw c.in-Ok-Page.field-0-is at c.in-Ok-Page.ensures in
-    root_written (Removes (bound_at c.args.key.now c.args.birth)) None (bound_at c.args.key.now c.args.birth) _ _ _ _ c.in-Ok-view_of.view c.in-Ok.page c.in-Ok-Page.page c.in-Ok.ensures.page c.in-Ok-view_of.ensures.shown done c.in-Ok-write.ensures
+    root_kept_written _ _ _ _ _ _ c.in-Ok-view_of.view c.in-Ok.page c.in-Ok-Page.page (λ none. none) read done c.in-Ok-write.ensures
 
 pub returns-in-Ok-Page-clause-goes_on : goal.returns-in-Ok-Page-clause-goes_on
 returns-in-Ok-Page-clause-goes_on g c =
-    goes_unwritten (Removes (bound_at c.args.key.now c.args.birth)) None (bound_at c.args.key.now c.args.birth) _ _ _ _ c.in-Ok-view_of.view c.in-Ok-Page.field-0 c.in-Err-write.fault c.in-Ok.ensures.only_reads c.in-Ok-Page.ensures c.in-Err-write.ensures
+    let done = rw c.in-Ok-Page.field-0-is at c.in-Ok-Page.ensures in
+    goes_then _ _ _ (goes_only _ _ c.in-Ok.ensures.only_reads) (goes_then _ _ _ done.goes_on (goes_gives_up _ _ _ c.in-Err-write.ensures))
 
 pub returns-clause-fault : goal.returns-clause-fault
 returns-clause-fault g c =
-    tree_fault (Removes (bound_at c.args.key.now c.args.birth)) None (bound_at c.args.key.now c.args.birth) _ _ _ c.in-Ok-view_of.view c.in-Ok.page c.in-Err-edit_below.fault c.in-Ok.ensures.page c.in-Ok.ensures.only_reads c.in-Ok-view_of.ensures.shown c.in-Err-edit_below.ensures
+    let read : WasRead _ _ c.in-Ok-view_of.view c.in-Ok.page = record { reads = c.in-Ok.ensures.page; only = c.in-Ok.ensures.only_reads; shown = c.in-Ok-view_of.ensures.shown } in
+    tree_fault _ _ _ _ _ c.in-Ok-view_of.view c.in-Ok.page c.in-Err-edit_below.fault read c.in-Err-edit_below.ensures

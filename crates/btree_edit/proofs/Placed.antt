@@ -1,0 +1,225 @@
+-- Cells of a page with one removed, put in the place of another, or put in between.
+use Rattle.std.proofs.Common.{◌≡◌, ◌≢◌, ⊎_elim, ℕ, zero, suc, ◌+◌, ◌-◌, ◌<◌, ◌≤◌, Bool, true, false, List, [], ◌∷◌, ◌++◌, map, length, take, drop, get_or, set, Option, Some, None, Result, Ok, Err, refl, sym, ap, subst, ◌∙◌, arith}
+use Rattle.std.specs.Prelude.{◌==◌, All, slice_get, slice_set, IfOk}
+use Rattle.std.specs.List.{flat_map, remove, insert}
+use Rattle.std.specs.declared.cmp.Ordering.{Ordering}
+use Rattle.std.specs.declared.cmp.Ordering.TheVariants.{Less, Equal, Greater}
+use Rattle.std.proofs.lemmas.List.{length-append, length-map, map-set}
+use Rattle.std.proofs.lemmas.List.Edits.{length-remove, length-insert}
+use Rattle.nfs3_types.specs.declared.memory.NoMemory.{NoMemory}
+use Rattle.pair_types.specs.declared.slot.Slot.{Slot}
+use Rattle.pair_types.specs.declared.quad.Quad.{Quad}
+use Rattle.btree_page.specs.declared.cell.Cell.{Cell}
+use Rattle.btree_page.specs.Cells.{entry_of}
+use Rattle.btree_page.specs.Content.{Bound, bound_cmp, IsBelow, Entry, Content, bound_of, entry_spelling, Fits, Follows, AreCells, IsPage, inner_entry}
+use Rattle.btree_page.specs.Tree.{quad_bound, quad_cell}
+use Rattle.btree_search.specs.declared.aim.Aim.TheVariants.{AtOrAfter, After}
+use Rattle.btree_search.specs.Aim.{is_sought}
+use Rattle.btree_search.specs.Find.{seeks, BeginsAt}
+use Rattle.btree_search.proofs.Order.{turned}
+use Rattle.btree_search.proofs.Ranges.{is_inner}
+use Rattle.btree_edit.specs.declared.outcome.Edited.{Edited}
+use Rattle.btree_edit.specs.declared.outcome.Edited.TheVariants.{Missing, Below, Page, Two}
+use Rattle.btree_edit.specs.Made.{size, IsShort, IsNearly, IsMadeOf}
+use Rattle.btree_edit.specs.Changes.{RemovesCell, ReplacesCell, InsertsCell, AreMade, Answers}
+use Rattle.btree_edit.proofs.Lists.{size_of_page, size-append, parts_of_cells, joined_cells, at_place, map_remove, above_before}
+use Rattle.btree_edit.proofs.Parting.{short_body, size_parts, map_take, map_drop}
+use Rattle.btree_edit.proofs.Leaves.{found_at}
+
+-- ---- the order
+
+below_follows : (is_leaf : Bool) (b : Bound) (e : Entry) → IsBelow b (bound_of e) → Follows is_leaf (Some b) e
+below_follows true b e h = h
+below_follows false b e h = h
+
+pub inserted_cells : (is_leaf : Bool) (before : Option Bound) (cells : List Entry) (at : ℕ) (e : Entry) → AreCells is_leaf before cells → at ≤ length cells → Fits is_leaf e
+    → (at ≡ 0 → Follows is_leaf before e)
+    → ((k : ℕ) (x : Entry) → k < at → slice_get cells k ≡ Some x → IsBelow (bound_of x) (bound_of e))
+    → ((k : ℕ) (x : Entry) → at ≤ k → slice_get cells k ≡ Some x → IsBelow (bound_of e) (bound_of x))
+    → AreCells is_leaf before (insert cells at e)
+inserted_cells is_leaf before [] zero e h le fits first low high = (fits, (first refl, tt))
+inserted_cells is_leaf before [] (suc at) e h le fits first low high = absurd (omega arith)
+inserted_cells is_leaf before (c ∷ cells) zero e h le fits first low high =
+    (fits, (first refl, (h.0, (below_follows is_leaf (bound_of e) c (high 0 c (omega arith) refl), h.1.1))))
+inserted_cells is_leaf before (c ∷ cells) (suc at) e h le fits first low high =
+    (h.0, (h.1.0, inserted_cells is_leaf (Some (bound_of c)) cells at e h.1.1 (omega arith) fits
+    (λ is. below_follows is_leaf (bound_of c) e (low 0 c (omega arith) refl))
+    (λ k x lt there. low (suc k) x (omega arith) there)
+    (λ k x up there. high (suc k) x (omega arith) there)))
+
+-- a cell in the place of one at the same bound
+set_cells : (before : Option Bound) (cells : List Entry) (at : ℕ) (e : Entry) → AreCells true before cells → at < length cells → Fits true e
+    → ((x : Entry) → slice_get cells at ≡ Some x → bound_of x ≡ bound_of e) → AreCells true before (set cells at e)
+set_cells before [] at e h lt fits same = absurd (omega arith)
+set_cells None (c ∷ cells) zero e h lt fits same =
+    (fits, (tt, subst (λ (b : Bound). AreCells true (Some b) cells) (same c refl) h.1.1))
+set_cells (Some before) (c ∷ cells) zero e h lt fits same =
+    (fits, (subst (λ (b : Bound). IsBelow before b) (same c refl) h.1.0, subst (λ (b : Bound). AreCells true (Some b) cells) (same c refl) h.1.1))
+set_cells before (c ∷ cells) (suc at) e h lt fits same =
+    (h.0, (h.1.0, set_cells (Some (bound_of c)) cells at e h.1.1 (omega arith) fits same))
+
+removed_cells : (cells : List Entry) (at : ℕ) → at < length cells → AreCells true None cells → AreCells true None (remove cells at)
+removed_cells cells at lt h =
+    let x = at_place cells at lt in
+    let parts = parts_of_cells true None (take at cells) (x.0 ∷ drop (suc at) cells) (subst (λ (cs : List Entry). AreCells true None cs) x.2 h) in
+    joined_cells true None (take at cells) (drop (suc at) cells) parts.0 (above_before _ x.0 (drop (suc at) cells) parts.1.1.0 parts.1.1.1)
+
+-- ---- the size
+
+pub size_set : (cells : List Entry) (at : ℕ) (e : Entry) → size (set cells at e) ≤ size cells + length (entry_spelling e)
+size_set [] at e = omega arith
+size_set (c ∷ cells) zero e = omega (arith, length-append (entry_spelling c) (flat_map entry_spelling cells), length-append (entry_spelling e) (flat_map entry_spelling cells))
+size_set (c ∷ cells) (suc at) e =
+    omega (arith, size_set cells at e, length-append (entry_spelling c) (flat_map entry_spelling cells), length-append (entry_spelling c) (flat_map entry_spelling (set cells at e)))
+
+pub size_insert : (cells : List Entry) (at : ℕ) (e : Entry) → size (insert cells at e) ≡ size cells + length (entry_spelling e)
+size_insert cells at e =
+    omega (arith, size_parts cells at, size-append (take at cells) (e ∷ drop at cells), length-append (entry_spelling e) (flat_map entry_spelling (drop at cells)))
+
+pub size_remove : (cells : List Entry) (at : ℕ) → at < length cells → size (remove cells at) ≤ size cells
+size_remove cells at lt =
+    let x = at_place cells at lt in
+    omega (
+      arith,
+      ap size x.2,
+      size-append (take at cells) (x.0 ∷ drop (suc at) cells),
+      size-append (take at cells) (drop (suc at) cells),
+      length-append (entry_spelling x.0) (flat_map entry_spelling (drop (suc at) cells)),
+    )
+
+-- ---- a leaf
+
+pub leaf_rules : (content : Content) → content.level ≡ 0 → IsPage content → AreCells true None content.cells × (size content.cells ≤ 8188)
+leaf_rules content leaf rules =
+    let whole : content ≡ record { level = 0; cells = content.cells } = ap (λ (n : ℕ). let made : Content = record { level = n; cells = content.cells } in made) leaf in
+    let there : IsPage (record { level = 0; cells = content.cells }) = subst (λ (c : Content). IsPage c) whole rules in
+    (there.cells, omega (arith, there.size, size_of_page 0 content.cells))
+
+near : (cells : List Entry) → AreCells true None cells → size cells ≤ 9672 → IsNearly 0 cells
+near cells rules few = record { byte = omega arith; rules = rules; least = λ up. absurd (omega arith); few = few }
+
+pub counted : (xs : List Cell) (es : List Entry) → map entry_of xs ≡ es → length xs ≡ length es
+counted xs es is = sym (length-map xs entry_of) ∙ ap (λ (ys : List Entry). length ys) is
+
+pub removed_leaf : (pair : Bound) (content : Content) (xs ys zs : List Cell) (at past : ℕ) → content.level ≡ 0 → IsPage content → map entry_of xs ≡ content.cells
+    → BeginsAt AtOrAfter pair content.cells at → BeginsAt After pair content.cells past → at ≢ past → ys ≡ remove xs at → zs ≡ ys
+    → RemovesCell pair content.cells (map entry_of zs) × IsNearly 0 (map entry_of zs)
+removed_leaf pair content xs ys zs at past leaf rules all h k isnt gone same =
+    let found = found_at pair content.cells at past h k isnt in
+    let left : map entry_of zs ≡ remove content.cells at =
+    ap (λ (cs : List Cell). map entry_of cs) (same ∙ gone) ∙ (map_remove entry_of xs at ∙ ap (λ (es : List Entry). remove es at) all) in
+    let page = leaf_rules content leaf rules in (
+      record { at = at; within = found.0; place = found.1; now = left; small = omega (arith, page.1, size_remove content.cells at found.0, ap size left) },
+      subst (λ (es : List Entry). IsNearly 0 es) (sym left) (near (remove content.cells at) (removed_cells content.cells at found.0 page.0) (omega (arith, page.1, size_remove content.cells at found.0))),
+    )
+
+pub replaced_leaf : (q : Quad) (content : Content) (xs ys zs : List Cell) (x : Cell) (at past : ℕ) → content.level ≡ 0 → IsPage content → map entry_of xs ≡ content.cells
+    → BeginsAt AtOrAfter (quad_bound q) content.cells at → BeginsAt After (quad_bound q) content.cells past → at ≢ past → entry_of x ≡ quad_cell q → Fits true (quad_cell q)
+    → ys ≡ set xs at x → zs ≡ ys
+    → ReplacesCell q content.cells (map entry_of zs) × IsNearly 0 (map entry_of zs)
+replaced_leaf q content xs ys zs x at past leaf rules all h k isnt is fits put same =
+    let found = found_at (quad_bound q) content.cells at past h k isnt in
+    let left : map entry_of zs ≡ set content.cells at (quad_cell q) =
+    ap (λ (cs : List Cell). map entry_of cs) (same ∙ put) ∙ (map-set entry_of xs at x ∙ (ap (λ (e : Entry). set (map entry_of xs) at e) is ∙ ap (λ (es : List Entry). set es at (quad_cell q)) all)) in
+    let page = leaf_rules content leaf rules in (
+      record { at = at; within = found.0; place = found.1; now = left },
+      subst (λ (es : List Entry). IsNearly 0 es) (sym left) (near (set content.cells at (quad_cell q)) (set_cells None content.cells at (quad_cell q) page.0 found.0 fits found.1)
+      (omega (arith, page.1, size_set content.cells at (quad_cell q), short_body true q.key q.birth (quad_cell q).body fits.key fits.body))),
+    )
+
+-- what lies before and behind a place where none stands at the pair
+low_so : (o : Ordering) → is_sought AtOrAfter o ≡ false → o ≡ Less
+low_so Less h = refl
+low_so Equal h = absurd cc
+low_so Greater h = absurd cc
+
+high_so : (o : Ordering) → is_sought After o ≡ true → o ≡ Greater
+high_so Less h = absurd cc
+high_so Equal h = absurd cc
+high_so Greater h = refl
+
+pub placed_cells : (is_leaf : Bool) (pair : Bound) (cells : List Entry) (at : ℕ) (e : Entry) → AreCells is_leaf None cells → BeginsAt AtOrAfter pair cells at → BeginsAt After pair cells at
+    → Fits is_leaf e → bound_of e ≡ pair → (at ≡ 0 → Follows is_leaf None e) → AreCells is_leaf None (insert cells at e)
+placed_cells is_leaf pair cells at e rules h k fits is first =
+    inserted_cells is_leaf None cells at e rules h.within fits first
+    (λ i x lt there. subst (λ (b : Bound). IsBelow (bound_of x) b) (sym is) (low_so _ (h.before i lt x there)))
+    (λ i x up there. subst (λ (b : Bound). IsBelow b (bound_of x)) (sym is) (turned (bound_of x) pair Greater (high_so _ (k.after i up x there))))
+
+map_insert : (xs : List Cell) (at : ℕ) (x : Cell) → map entry_of (insert xs at x) ≡ insert (map entry_of xs) at (entry_of x)
+map_insert [] zero x = refl
+map_insert [] (suc at) x = refl
+map_insert (y ∷ ys) zero x = refl
+map_insert (y ∷ ys) (suc at) x = ap (λ (es : List Entry). entry_of y ∷ es) (map_insert ys at x)
+
+pub inserted_all : (xs ys zs : List Cell) (at : ℕ) (x : Cell) (es : List Entry) (e : Entry) → map entry_of xs ≡ es → entry_of x ≡ e → ys ≡ insert xs at x → zs ≡ ys
+    → map entry_of zs ≡ insert es at e
+inserted_all xs ys zs at x es e all is put same =
+    ap (λ (cs : List Cell). map entry_of cs) (same ∙ put) ∙ (map_insert xs at x ∙ (ap (λ (y : Entry). insert (map entry_of xs) at y) is ∙ ap (λ (ys : List Entry). insert ys at e) all))
+
+pub inserted_leaf : (q : Quad) (content : Content) (xs ys zs : List Cell) (x : Cell) (at past : ℕ) → content.level ≡ 0 → IsPage content → map entry_of xs ≡ content.cells
+    → BeginsAt AtOrAfter (quad_bound q) content.cells at → BeginsAt After (quad_bound q) content.cells past → at ≡ past → entry_of x ≡ quad_cell q → Fits true (quad_cell q)
+    → ys ≡ insert xs at x → zs ≡ ys
+    → InsertsCell q content.cells (map entry_of zs) × IsNearly 0 (map entry_of zs)
+inserted_leaf q content xs ys zs x at past leaf rules all h k same_place is fits put same =
+    let left : map entry_of zs ≡ insert content.cells at (quad_cell q) = inserted_all xs ys zs at x content.cells (quad_cell q) all is put same in
+    let page = leaf_rules content leaf rules in
+    let there : BeginsAt After (quad_bound q) content.cells at = subst (λ (n : ℕ). BeginsAt After (quad_bound q) content.cells n) (sym same_place) k in (
+      record { at = at; within = h.within; now = left },
+      subst (λ (es : List Entry). IsNearly 0 es) (sym left) (near (insert content.cells at (quad_cell q)) (placed_cells true (quad_bound q) content.cells at (quad_cell q) page.0 h there fits refl (λ z. tt))
+      (omega (arith, page.1, size_insert content.cells at (quad_cell q), short_body true q.key q.birth (quad_cell q).body fits.key fits.body))),
+    )
+
+-- ---- the answer
+
+pub answered_so : (Edit : List Entry → Type 0) (Missed : Type 0) (cells : List Entry) (edited : Edited) → Edit cells → IsNearly 0 cells → IsMadeOf 0 cells edited → Answers Edit Missed edited
+answered_so Edit Missed cells Missing edit nearly made = absurd made
+answered_so Edit Missed cells Below edit nearly made = absurd made
+answered_so Edit Missed cells (Page page) edit nearly made = record { cells = cells; edit = edit; nearly = nearly; made = made }
+answered_so Edit Missed cells (Two left key birth right) edit nearly made = record { cells = cells; edit = edit; nearly = nearly; made = made }
+
+pub answered : (Edit : List Entry → Type 0) (Missed : Type 0) (cells : List Entry) (result : Result Edited NoMemory) → Edit cells → IsNearly 0 cells → IfOk result (λ edited. IsMadeOf 0 cells edited)
+    → IfOk result (λ edited. Answers Edit Missed edited)
+answered Edit Missed cells (Ok edited) edit nearly made = answered_so Edit Missed cells edited edit nearly made
+answered Edit Missed cells (Err fault) edit nearly made = tt
+
+-- a child more in an inner page
+pub grafted : (content : Content) (xs ys zs : List Cell) (x : Cell) (at here past : ℕ) (bound : Bound) (child : Slot) → 0 < content.level → 0 < at → IsPage content → map entry_of xs ≡ content.cells
+    → BeginsAt AtOrAfter bound content.cells here → BeginsAt After bound content.cells past → here ≡ at → past ≡ at
+    → entry_of x ≡ inner_entry bound.key bound.birth child → Fits false (inner_entry bound.key bound.birth child)
+    → ys ≡ insert xs at x → zs ≡ ys
+    → (map entry_of zs ≡ insert content.cells at (inner_entry bound.key bound.birth child)) × IsNearly content.level (map entry_of zs)
+grafted content xs ys zs x at here past bound child up behind rules all h k is_here is_past is fits put same =
+    let e = inner_entry bound.key bound.birth child in
+    let left : map entry_of zs ≡ insert content.cells at e = inserted_all xs ys zs at x content.cells e all is put same in
+    let inner : (content.level == 0) ≡ false = not_leaf content.level up in
+    let cells : AreCells false None content.cells = subst (λ (t : Bool). AreCells t None content.cells) inner rules.cells in
+    let low : BeginsAt AtOrAfter bound content.cells at = subst (λ (n : ℕ). BeginsAt AtOrAfter bound content.cells n) is_here h in
+    let high : BeginsAt After bound content.cells at = subst (λ (n : ℕ). BeginsAt After bound content.cells n) is_past k in
+    let placed = placed_cells false bound content.cells at e cells low high fits refl (λ z. absurd (omega arith)) in (
+      left,
+      subst (λ (es : List Entry). IsNearly content.level es) (sym left) (record {
+        byte = rules.level;
+        rules = subst (λ (t : Bool). AreCells t None (insert content.cells at e)) (sym inner) placed;
+        least = λ more. omega (arith, rules.least more, length-insert content.cells at e low.within);
+        few = omega (arith, rules.size, size_of_page content.level content.cells, size_insert content.cells at e, short_body false bound.key bound.birth (inner_entry bound.key bound.birth child).body fits.key fits.body);
+      }),
+    )
+  where
+    not_leaf : (n : ℕ) → 0 < n → (n == 0) ≡ false
+    not_leaf n lt =
+        let is : n ≡ suc (n - 1) = omega arith in ap (λ (m : ℕ). m == 0) is ∙ is_inner (n - 1)
+
+pub made_any : (level : ℕ) (Edit : List Entry → Type 0) (cells : List Entry) (edited : Edited) → Edit cells → IsNearly level cells → IsMadeOf level cells edited → AreMade level Edit edited
+made_any level Edit cells edited edit nearly made = record { cells = cells; edit = edit; nearly = nearly; made = made }
+
+-- one that is put where another stands
+pub refused_so : (pair : Bound) (cells : List Entry) (at past : ℕ) → BeginsAt AtOrAfter pair cells at → BeginsAt After pair cells past → at ≢ past → All (λ e. bound_of e ≢ pair) cells → ⊥
+refused_so pair cells at past h k isnt none =
+    let found = found_at pair cells at past h k isnt in
+    let x = at_place cells at found.0 in
+    none at x.0 found.0 (ap (λ (e : Entry). bound_of e) (get_there cells at x.0 x.1) ∙ found.1 x.0 x.1)
+  where
+    get_there : (es : List Entry) (i : ℕ) (e : Entry) → slice_get es i ≡ Some e → get_or es i e ≡ e
+    get_there [] i e h = refl
+    get_there (c ∷ es) zero e h = cc
+    get_there (c ∷ es) (suc i) e h = get_there es i e h

@@ -1,0 +1,18 @@
+use Rattle.btree_edit.specs.declared.change.Change.{Change}
+use Rattle.btree_edit.specs.Changes.{cells_edit, misses_of, Answers, EditsLeaf}
+use Rattle.btree_edit.proofs.leaf.edit_leaf.Goals as goal
+
+pub returns-in-Ok : goal.returns-in-Ok
+returns-in-Ok c = rw c.in-Remove.is c.in-Ok.ensures
+
+pub returns-in-Ok-replace_in : goal.returns-in-Ok-replace_in
+returns-in-Ok-replace_in c = rw c.in-Replace.is c.in-Ok-replace_in.ensures
+
+pub returns-in-Insert : goal.returns-in-Insert
+returns-in-Insert c = rw c.in-Insert.is c.insert_into.ensures
+
+pub returns-in-Err : goal.returns-in-Err
+returns-in-Err c = rw c.in-Remove.is c.from.ensures
+
+pub returns-in-Err-replace_in : goal.returns-in-Err-replace_in
+returns-in-Err-replace_in c = rw c.in-Replace.is c.from-in-Err-replace_in.ensures
