@@ -1,5 +1,5 @@
 """Runs a program that prints lines of a name and a number, and takes the processor time that it has spent at
-each line. Used by the scripts in the folders beside it."""
+each line, on Linux. Used by the scripts in the folders beside it."""
 import os
 import subprocess
 import sys

@@ -31,7 +31,7 @@ fn words<R: Env + AllocGlobal>(rt: &R, alloc: Global) -> Result<Vec<String>> {
 fn number(word: &str) -> Result<u64> {
     match word.parse::<u64>() {
         Ok(number) => Ok(number),
-        Err(_) => bail!("{word:?} is no number"),
+        Err(_) => bail!("{word:?} is no number below 2^64"),
     }
 }
 
