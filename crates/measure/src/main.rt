@@ -1,0 +1,53 @@
+//! The program `measure`: work of a known size for the layers below, so that scripts can time it. It
+//! takes no time itself, and with no word it does nothing. It is a tool: what is proved of it is that
+//! it is safe and ends.
+//!
+//! `measure btree N` inserts N records into a tree in memory and seeks each; `measure paxos REPLICAS
+//! BYTES N` appends N commands of so many bytes to a group in calm weather. Each prints a line for a
+//! figure. Any other words are answered by a line on standard error and status 1.
+#![tactic(auto)]
+
+mod btree;
+mod command;
+mod counted;
+mod keys;
+mod paxos;
+
+use anyhow::{Result, bail};
+use std::alloc::Global;
+use std::env;
+use std::rt::Env;
+
+/// The words behind the program's name.
+fn words<R: Env + AllocGlobal>(rt: &R, alloc: Global) -> Result<Vec<String>> {
+    let mut words = Vec::new(alloc);
+    for word in env::args(rt)?.skip(1) {
+        words.push(word)?;
+    }
+    Ok(words)
+}
+
+/// The number that a word is.
+fn number(word: &str) -> Result<u64> {
+    match word.parse::<u64>() {
+        Ok(number) => Ok(number),
+        Err(_) => bail!("{word:?} is no number below 2^64"),
+    }
+}
+
+/// Does what the words say.
+fn run(rt: &impl Print, alloc: Global, words: &[String]) -> Result<()> {
+    match words {
+        [] => Ok(()),
+        [word, count] if word.as_str() == "btree" => btree::measure(rt, alloc, number(count)?),
+        [word, replicas, bytes, count] if word.as_str() == "paxos" => {
+            paxos::measure(rt, alloc, number(replicas)?, number(bytes)?, number(count)?)
+        }
+        _ => bail!("usage: measure btree N | measure paxos REPLICAS BYTES N"),
+    }
+}
+
+fn main(rt: HostRuntime) -> Result<()> {
+    let words = words(&rt, rt.alloc())?;
+    run(&rt, rt.alloc(), &words)
+}
