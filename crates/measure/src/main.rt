@@ -3,8 +3,9 @@
 //! it is safe and ends.
 //!
 //! `measure btree N` inserts N records into a tree in memory and seeks each; `measure paxos REPLICAS
-//! BYTES N` appends N commands of so many bytes to a group in calm weather. Each prints a line for a
-//! figure. Any other words are answered by a line on standard error and status 1.
+//! BYTES N` appends N commands of so many bytes to a group in calm weather; `measure wire N` reads and
+//! writes N mixed calls and replies in memory. Each prints a line for a figure. Any other words are answered
+//! by a line on standard error and status 1.
 #![tactic(auto)]
 
 mod btree;
@@ -12,6 +13,8 @@ mod command;
 mod counted;
 mod keys;
 mod paxos;
+mod samples;
+mod wire;
 
 use anyhow::{Result, bail};
 use std::alloc::Global;
@@ -43,7 +46,8 @@ fn run(rt: &impl Print, alloc: Global, words: &[String]) -> Result<()> {
         [word, replicas, bytes, count] if word.as_str() == "paxos" => {
             paxos::measure(rt, alloc, number(replicas)?, number(bytes)?, number(count)?)
         }
-        _ => bail!("usage: measure btree N | measure paxos REPLICAS BYTES N"),
+        [word, count] if word.as_str() == "wire" => wire::measure(rt, alloc, number(count)?),
+        _ => bail!("usage: measure btree N | measure paxos REPLICAS BYTES N | measure wire N"),
     }
 }
 
