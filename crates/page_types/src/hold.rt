@@ -1,0 +1,53 @@
+//! Holds: what a prepared transaction keeps of a page until it is resolved.
+
+ghost use Rattle.std.specs.Prelude.{◌≡◌, IfOk};
+
+use crate::copying::copy_parts;
+use nfs3_types::{ListOf, NoMemory};
+use pair_types::{Page, Tid};
+use std::alloc::Global;
+
+/// A reader's hold: nobody else may write the page.
+#[derive(Debug, Drop)]
+pub struct Hold {
+    /// Whose hold it is.
+    pub tid: Tid,
+    /// The store at which the transaction is decided.
+    pub home: u32,
+    /// The stores that take part in the transaction.
+    pub parts: ListOf<u32>,
+}
+
+/// A writer's hold: nobody else may read or write the page.
+#[derive(Debug, Drop)]
+pub struct WriteHold {
+    /// Whose hold it is, and what it takes part in.
+    pub hold: Hold,
+    /// What the page is to hold once the transaction is committed.
+    pub content: Page,
+}
+
+impl Hold {
+    /// An equal hold, or `NoMemory`.
+    pub fn copy(&self, alloc: Global) -> Result<Hold, NoMemory>
+        ensures { IfOk result (λ hold. hold ≡ self.now) }
+    {
+        Ok(Hold {
+            tid: self.tid,
+            home: self.home,
+            parts: copy_parts(alloc, &self.parts)?,
+        })
+    }
+}
+
+impl WriteHold {
+    /// An equal hold, or `NoMemory`.
+    pub fn copy(&self, alloc: Global) -> Result<WriteHold, NoMemory>
+        ensures { IfOk result (λ hold. hold ≡ self.now) }
+    {
+        Ok(WriteHold {
+            hold: self.hold.copy(alloc)?,
+            content: self.content.copy()?,
+        })
+    }
+}
