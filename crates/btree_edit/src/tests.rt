@@ -1,11 +1,13 @@
-ghost use Rattle.std.specs.Prelude.{◌≡◌, ◌≤◌, length, IfOk};
+ghost use Rattle.std.specs.Prelude.{◌≡◌, ◌<◌, ◌≤◌, length, IfOk, OnOk};
+ghost use Rattle.pair_types.specs.MemPages.{state_of};
 ghost use Rattle.btree_edit.specs.Edits.{IsRecord};
 
 use super::*;
-use btree_page::PageBuilder;
+use btree_page::{PageBuilder, PageView};
 use btree_search::{next, seek};
-use pair_types::{Key, MemPages, PairFault, Quad, Slot, Value};
+use pair_types::{Key, MemPages, Pages, PairFault, Quad, Slot, Value};
 use std::alloc::Global;
+use std::collections::BTreeSet;
 use std::test::*;
 
 fn slot(number: u64) -> Slot
@@ -107,5 +109,88 @@ fn many_records_come_in_and_every_other_one_goes(rt: HostRuntime) -> Result<(), 
     let lacking = record(alloc, b"0003", b"")?;
     assert!(rt; !replace(alloc, &mut pages, &lacking, 0)?);
     assert!(rt; matches!(insert(alloc, &mut pages, &longer, 0), Err(PairFault::Odd)));
+    Ok(())
+}
+
+/// The next state of a generator of numbers below 2^31.
+fn drawn(state: u64) -> u64 {
+    (1_103_515_245 * (state % (1 << 31)) + 12_345) % (1 << 31)
+}
+
+/// Lets the record of a key go where it is there, and else come, and says whether that was so. Every
+/// third record is large.
+fn turn(alloc: Global, pages: &mut MemPages, number: u64, there: bool) -> Result<bool, Fail>
+    requires { 0 < (state_of pages.old).stores }
+    ensures { OnOk result ((state_of pages.new).stores ≡ (state_of pages.old).stores) }
+{
+    let key = format!(in alloc; "{number:05}")?;
+    if key.len() > 20 {
+        return Ok(false);
+    }
+    if there {
+        return Ok(remove(alloc, pages, key.as_bytes(), 1)?);
+    }
+    let q = if number % 3 == 0 {
+        record(alloc, key.as_bytes(), &[b'l'; 1200])?
+    } else {
+        record(alloc, key.as_bytes(), b"small")?
+    };
+    insert(alloc, pages, &q, 0)?;
+    Ok(true)
+}
+
+/// 16,000 draws among 32,000 keys: the record of a key comes where it is not there, and goes where it is.
+/// In the end, with about 10,000 records there, small and large, a walk finds just these in their order.
+#[test]
+fn records_come_and_go_in_any_order(rt: HostRuntime) -> Result<(), Fail> {
+    let alloc = rt.alloc();
+    let mut pages = MemPages::new(alloc, 1);
+    pages.set(slot(0), PageBuilder::new(alloc, 0)?.finish()?)?;
+    let mut there = BTreeSet::new(alloc);
+    let mut state = 1u64;
+    for _turn in 0u32..16_000 {
+        state = drawn(state);
+        let number = state / 65_536 % 32_000;
+        let was_there = there.remove(&number);
+        let kept = turn(alloc, &mut pages, number, was_there)?;
+        assert!(rt; kept);
+        if !was_there {
+            there.insert(number)?;
+        }
+    }
+    assert!(rt; there.len() > 9_500);
+    let mut found = seek(alloc, &mut pages, b"", 0)?;
+    for number in there.iter() {
+        let key = format!(in alloc; "{number:05}")?;
+        let at = found.map(|q| q.key.as_slice() == key.as_bytes());
+        assert!(rt; at == Some(true));
+        found = next(alloc, &mut pages, key.as_bytes(), 1)?;
+    }
+    assert!(rt; found.is_none());
+    Ok(())
+}
+
+/// How many cells the root has, and its level.
+fn root_of(pages: &mut MemPages) -> Result<(usize, u32), Fail>
+    ensures { OnOk result ((state_of pages.new).stores ≡ (state_of pages.old).stores) }
+{
+    let page = pages.read(slot(0))?;
+    let view = PageView::of(page.as_slice())?;
+    Ok((view.count(), view.level()))
+}
+
+/// Five records of the greatest size fill a page, and the sixth divides it.
+#[test]
+fn a_page_holds_five_records_of_the_greatest_size(rt: HostRuntime) -> Result<(), Fail> {
+    let alloc = rt.alloc();
+    let mut pages = MemPages::new(alloc, 1);
+    pages.set(slot(0), PageBuilder::new(alloc, 0)?.finish()?)?;
+    let roots: [(usize, u32); 6] = [(1, 0), (2, 0), (3, 0), (4, 0), (5, 0), (2, 1)];
+    for n in 0u8..6 {
+        let q = record(alloc, &[n; 264], &[b'v'; 1200])?;
+        insert(alloc, &mut pages, &q, 0)?;
+        let at = root_of(&mut pages)?;
+        assert_eq!(rt; at, roots[n as usize]);
+    }
     Ok(())
 }
