@@ -99,6 +99,7 @@ fn put_handle(out: &mut Vec<u8>, exports: Exports) -> Result<(), NoMemory>
 /// Puts the flavors of credentials that are taken.
 fn put_flavors(out: &mut Vec<u8>) -> Result<(), NoMemory>
     ensures ok { OnOk result (out.new.items ≡ out.old.items ++ (array (2 ^ 32 - 1) word).spelling (1 ∷ 0 ∷ [])) }
+    ensures len { OnOk result (vec_len out.new ≡ vec_len out.old + 12) }
     ensures room { vec_len out.old + 12 ≤ vec_capacity out.old → IsOk result }
 {
     put_word(out, 2)?;
@@ -110,6 +111,7 @@ fn put_flavors(out: &mut Vec<u8>) -> Result<(), NoMemory>
 #[tactic(auto, unfolding(crate::specs::Protocol::mount_result, crate::specs::Protocol::mounted))]
 fn put_mount(out: &mut Vec<u8>, exports: Exports, path: &[u8]) -> Result<(), NoMemory>
     ensures ok { OnOk result (out.new.items ≡ out.old.items ++ mount_result.spelling (mount exports.fsid path.now)) }
+    ensures small { OnOk result (vec_len out.new ≤ vec_len out.old + 44) }
     ensures room { vec_len out.old + 44 ≤ vec_capacity out.old → IsOk result }
 {
     if path != b"/".as_slice() {
@@ -124,6 +126,7 @@ fn put_mount(out: &mut Vec<u8>, exports: Exports, path: &[u8]) -> Result<(), NoM
 #[tactic(auto, unfolding(crate::specs::Protocol::exports, crate::specs::Protocol::export, crate::specs::Protocol::dirpath, xdr_grammar::specs::Entries::entries))]
 fn put_exports(out: &mut Vec<u8>) -> Result<(), NoMemory>
     ensures ok { OnOk result (out.new.items ≡ out.old.items ++ exports.spelling (record { directory = root; groups = [] } ∷ [])) }
+    ensures small { OnOk result (vec_len out.new ≤ vec_len out.old + 44) }
     ensures room { vec_len out.old + 20 ≤ vec_capacity out.old → IsOk result }
 {
     put_truth(out, true)?;
@@ -136,6 +139,7 @@ fn put_exports(out: &mut Vec<u8>) -> Result<(), NoMemory>
 #[tactic(auto, unfolding(crate::specs::Protocol::mount_list, xdr_grammar::specs::Entries::entries))]
 fn put_mounts(out: &mut Vec<u8>) -> Result<(), NoMemory>
     ensures ok { OnOk result (out.new.items ≡ out.old.items ++ mount_list.spelling []) }
+    ensures small { OnOk result (vec_len out.new ≤ vec_len out.old + 44) }
     ensures room { vec_len out.old + 4 ≤ vec_capacity out.old → IsOk result }
 {
     put_truth(out, false)
@@ -150,6 +154,7 @@ fn put_body(
     path: &[u8],
 ) -> Result<(), NoMemory>
     ensures ok { OnOk result (out.new.items ≡ out.old.items ++ body exports.fsid procedure path.now) }
+    ensures small { OnOk result (vec_len out.new ≤ vec_len out.old + 44) }
     ensures err { OnErr result (out.new.items ≡ out.old.items) }
     ensures room { vec_len out.old + 44 ≤ vec_capacity out.old → IsOk result }
 {
@@ -172,6 +177,7 @@ pub fn answer_mount(
 ) -> Result<(), MountFault>
     requires { procedure ≤ 5 }
     ensures ok { OnOk result (Answers e.now.fsid procedure args.now out.old.items out.new.items) }
+    ensures small { OnOk result (vec_len out.new ≤ vec_len out.old + 44) }
     ensures garbage { (fault : XdrFault) → (result ≡ Err (MountFault.Garbage fault)) ↔ (whole (arguments procedure) args.now ≡ Err fault) }
     ensures err { OnErr result (out.new.items ≡ out.old.items) }
     ensures room { vec_len out.old + 44 ≤ vec_capacity out.old → result ≢ Err MountFault.NoMemory }

@@ -1,0 +1,2 @@
+pub mod Immediate
+pub mod Routing
