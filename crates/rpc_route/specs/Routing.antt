@@ -1,5 +1,5 @@
 -- How a record was routed.
-use Rattle.std.specs.Prelude.{◌≡◌, ℕ, List, ◌++◌, Result, Ok, Err}
+use Rattle.std.specs.Prelude.{◌≡◌, ℕ, ◌%◌, List, ◌++◌, length, Result, Ok, Err}
 use Rattle.rpc_msg.specs.Message.{MessageHead, message_head}
 use Rattle.rpc_msg.specs.declared.call.HeadFault.{HeadFault}
 use Rattle.rpc_msg.specs.declared.credential.Who.{Who}
@@ -21,9 +21,10 @@ pub record HasReply (immediate : Immediate) (old new : List ℕ) : Type 0 where
   pub is : immediate ≡ Replied reply
   pub gained : new ≡ old ++ reply
 
--- the tree is needed, and the buffer is as it was
+-- the tree is needed, and the buffer is as it was; the group ids that are lent are four bytes each and no more
 pub record NeedsTree (immediate : Immediate) (xid : ℕ) (who : Who) (lent : Call) (old new : List ℕ) : Type 0 where
   pub is : immediate ≡ Needs xid (caller_of who) lent
+  pub whole : length who.gids.now % 4 ≡ 0
   pub same : new ≡ old
 
 -- the record is no call, and the buffer is as it was

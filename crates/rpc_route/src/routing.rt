@@ -1,6 +1,6 @@
 //! Routing a record.
 
-ghost use Rattle.std.specs.Prelude.{◌≡◌, ◌-◌, ◌^◌, ◌<◌, ◌≤◌, length};
+ghost use Rattle.std.specs.Prelude.{◌≡◌, ◌-◌, ◌^◌, ◌<◌, ◌≤◌, length, ◌%◌};
 ghost use Rattle.rpc_msg.specs.Message.{view};
 ghost use Rattle.xdr_grammar.specs.Whole.{whole};
 ghost use Rattle.rpc_msg.specs.Replies.{accepted_record, denied_record};
@@ -99,7 +99,8 @@ fn route_nfs<'a>(
     args: &'a [u8],
     out: &mut Vec<u8>,
 ) -> Result<Routed<'a>, RouteFault>
-    requires { procedure ≤ 21 }
+    requires procedure { procedure ≤ 21 }
+    requires whole { length who.now.gids.now % 4 ≡ 0 }
     ensures { Routes (of_nfs xid (caller_of who.now) procedure (whole (call_of procedure) args.now)) xid out.old.items out.new.items result }
 {
     let lent = match read_args(procedure, args) {
@@ -150,6 +151,7 @@ fn route_in_nfs<'a>(
     args: &'a [u8],
     out: &mut Vec<u8>,
 ) -> Result<Routed<'a>, RouteFault>
+    requires { length who.now.gids.now % 4 ≡ 0 }
     ensures { Routes (in_nfs (view head.now) (caller_of who.now) args.now) head.now.xid out.old.items out.new.items result }
 {
     if head.vers != VERSION {
@@ -189,6 +191,7 @@ fn route_program<'a>(
     e: &Exports,
     out: &mut Vec<u8>,
 ) -> Result<Routed<'a>, RouteFault>
+    requires { length who.now.gids.now % 4 ≡ 0 }
     ensures { Routes (in_program e.now.fsid (view head.now) (caller_of who.now) args.now) head.now.xid out.old.items out.new.items result }
 {
     match head.prog {
