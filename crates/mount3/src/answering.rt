@@ -101,6 +101,7 @@ fn put_flavors(out: &mut Vec<u8>) -> Result<(), NoMemory>
     ensures ok { OnOk result (out.new.items ≡ out.old.items ++ (array (2 ^ 32 - 1) word).spelling (1 ∷ 0 ∷ [])) }
     ensures len { OnOk result (vec_len out.new ≡ vec_len out.old + 12) }
     ensures room { vec_len out.old + 12 ≤ vec_capacity out.old → IsOk result }
+    ensures capacity { vec_capacity out.old ≤ vec_capacity out.new }
 {
     put_word(out, 2)?;
     put_word(out, AUTH_SYS)?;
@@ -113,6 +114,7 @@ fn put_mount(out: &mut Vec<u8>, exports: Exports, path: &[u8]) -> Result<(), NoM
     ensures ok { OnOk result (out.new.items ≡ out.old.items ++ mount_result.spelling (mount exports.fsid path.now)) }
     ensures small { OnOk result (vec_len out.new ≤ vec_len out.old + 44) }
     ensures room { vec_len out.old + 44 ≤ vec_capacity out.old → IsOk result }
+    ensures capacity { vec_capacity out.old ≤ vec_capacity out.new }
 {
     if path != b"/".as_slice() {
         return put_word(out, MNT3ERR_NOENT);
@@ -128,6 +130,7 @@ fn put_exports(out: &mut Vec<u8>) -> Result<(), NoMemory>
     ensures ok { OnOk result (out.new.items ≡ out.old.items ++ exports.spelling (record { directory = root; groups = [] } ∷ [])) }
     ensures small { OnOk result (vec_len out.new ≤ vec_len out.old + 44) }
     ensures room { vec_len out.old + 20 ≤ vec_capacity out.old → IsOk result }
+    ensures capacity { vec_capacity out.old ≤ vec_capacity out.new }
 {
     put_truth(out, true)?;
     put_opaque(out, b"/".as_slice())?;
@@ -141,6 +144,7 @@ fn put_mounts(out: &mut Vec<u8>) -> Result<(), NoMemory>
     ensures ok { OnOk result (out.new.items ≡ out.old.items ++ mount_list.spelling []) }
     ensures small { OnOk result (vec_len out.new ≤ vec_len out.old + 44) }
     ensures room { vec_len out.old + 4 ≤ vec_capacity out.old → IsOk result }
+    ensures capacity { vec_capacity out.old ≤ vec_capacity out.new }
 {
     put_truth(out, false)
 }
@@ -157,6 +161,7 @@ fn put_body(
     ensures small { OnOk result (vec_len out.new ≤ vec_len out.old + 44) }
     ensures err { OnErr result (out.new.items ≡ out.old.items) }
     ensures room { vec_len out.old + 44 ≤ vec_capacity out.old → IsOk result }
+    ensures capacity { vec_capacity out.old ≤ vec_capacity out.new }
 {
     out.reserve(LONGEST_BODY)?;
     match procedure {
@@ -181,6 +186,7 @@ pub fn answer_mount(
     ensures garbage { (fault : XdrFault) → (result ≡ Err (MountFault.Garbage fault)) ↔ (whole (arguments procedure) args.now ≡ Err fault) }
     ensures err { OnErr result (out.new.items ≡ out.old.items) }
     ensures room { vec_len out.old + 44 ≤ vec_capacity out.old → result ≢ Err MountFault.NoMemory }
+    ensures capacity { vec_capacity out.old ≤ vec_capacity out.new }
 {
     let path = match read_path(procedure, args) {
         Ok(path) => path,

@@ -120,7 +120,7 @@ failure_text : (p : ℕ) (s : Status) (w : Refusal) → is_ok s ≡ false → (r
 unfolding result_with_status
 failure_text p s w h = rw h refl
 
-failure_size : (p : ℕ) (s : Status) (w : Refusal) → is_ok s ≡ false → (result_with_status p).size (Failure s w) ≡ status.size s + (refusal p).size w
+pub failure_size : (p : ℕ) (s : Status) (w : Refusal) → is_ok s ≡ false → (result_with_status p).size (Failure s w) ≡ status.size s + (refusal p).size w
 unfolding result_with_status
 failure_size p s w h = rw h refl
 

@@ -52,6 +52,7 @@ fn put_result(out: &mut Vec<u8>, r: &Reply) -> Result<(), NoMemory>
     ensures ok { OnOk result (out.new.items ≡ out.old.items ++ (result_of r.now.procedure).spelling (outcome_of r.now)) }
     ensures len { OnOk result (vec_len out.new ≡ vec_len out.old + (result_of r.now.procedure).size (outcome_of r.now)) }
     ensures room { vec_len out.old + (result_of r.now.procedure).size (outcome_of r.now) ≤ vec_capacity out.old → IsOk result }
+    ensures capacity { vec_capacity out.old ≤ vec_capacity out.new }
 {
     if r.procedure == 0 {
         return Ok(());
@@ -73,6 +74,7 @@ pub fn write_reply(r: &Reply, out: &mut Vec<u8>) -> Result<(), NoMemory>
     ensures len { OnOk result (vec_len out.new ≡ vec_len out.old + (result_of r.now.procedure).size (outcome_of r.now)) }
     ensures err { OnErr result (out.new.items ≡ out.old.items) }
     ensures room { vec_len out.old + (result_of r.now.procedure).size (outcome_of r.now) ≤ vec_capacity out.old → IsOk result }
+    ensures capacity { vec_capacity out.old ≤ vec_capacity out.new }
 {
     out.reserve(reply_size(r))?;
     put_result(out, r)

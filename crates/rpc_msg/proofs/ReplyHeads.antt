@@ -1,5 +1,5 @@
 -- How the records of replies are spelled, item by item.
-use Rattle.std.proofs.Common.{rules, ◌≡◌, ℕ, ◌+◌, List, [], ◌∷◌, ◌++◌, length, take, refl, ap, ◌∙◌, append_assoc, length-append}
+use Rattle.std.proofs.Common.{rules, ◌≡◌, ℕ, ◌+◌, List, [], ◌∷◌, ◌++◌, length, Result, Ok, Err, OnOk, refl, sym, ap, ◌∙◌, append_assoc, length-append}
 use Rattle.std.specs.Prelude.{◌^◌, slice_index}
 use Rattle.xdr_grammar.specs.Items.{word, opaque, fixed}
 use Rattle.xdr_grammar.specs.Arrays.{items}
@@ -7,7 +7,7 @@ use Rattle.xdr_grammar.specs.Laws.{Laws}
 use Rattle.xdr_grammar.proofs.Rules.{grammar_laws}
 use Rattle.rpc_records.specs.Reading.{marked}
 use Rattle.rpc_msg.specs.Auth.{opaque_auth}
-use Rattle.rpc_msg.specs.Replies.{reply_head, accepted_reply, accepted, head_bytes, accepted_record, denied_record}
+use Rattle.rpc_msg.specs.Replies.{reply_head, accepted_reply, accepted, head_bytes, accepted_head, accepted_record, denied_record}
 use Rattle.rpc_msg.proofs.Auth.{opaque_auth-laws}
 
 reply_head-laws : Laws reply_head
@@ -27,15 +27,28 @@ accepted_long : (xid stat : ℕ) → length (accepted_reply.spelling (accepted x
 unfolding accepted_reply reply_head opaque_auth opaque fixed word
 accepted_long xid stat = refl
 
-pub accepted-spelled : (xid stat : ℕ) (results : List ℕ)
-    → accepted_record xid stat results ≡ head_bytes (24 + length results) xid 0 ++ (word.spelling 0 ++ (word.spelling 0 ++ (word.spelling stat ++ results)))
-unfolding accepted_record marked head_bytes
-accepted-spelled xid stat results =
+pub accepted_head-spelled : (size xid stat : ℕ)
+    → accepted_head size xid stat ≡ head_bytes (24 + size) xid 0 ++ (word.spelling 0 ++ (word.spelling 0 ++ word.spelling stat))
+unfolding accepted_head head_bytes
+accepted_head-spelled size xid stat =
+    ap (λ (front : List ℕ). word.spelling (2 ^ 31 + (24 + size)) ++ front) (accepted_parts xid stat)
+    ∙ search (rules, append_assoc)
+
+-- the record is its head, and then its results
+pub accepted_parted : (xid stat : ℕ) (results : List ℕ) → accepted_record xid stat results ≡ accepted_head (length results) xid stat ++ results
+unfolding accepted_record marked accepted_head
+accepted_parted xid stat results =
     let head = accepted_reply.spelling (accepted xid stat) in
     let long : length (head ++ results) ≡ 24 + length results = length-append head results ∙ ap (λ n. n + length results) (accepted_long xid stat) in
-    ap (λ n. word.spelling (2 ^ 31 + n) ++ (head ++ results)) long
-    ∙ ap (λ (front : List ℕ). word.spelling (2 ^ 31 + (24 + length results)) ++ (front ++ results)) (accepted_parts xid stat)
-    ∙ search (rules, append_assoc)
+    ap (λ n. word.spelling (2 ^ 31 + n) ++ (head ++ results)) long ∙ search (rules, append_assoc)
+
+-- results that are put behind a head of their length make it a record
+pub accepted_behind : {A E : Type 0} (result : Result A E) (old new : List ℕ) (size xid stat : ℕ) → OnOk result (new ≡ old ++ accepted_head size xid stat)
+    → OnOk result ((results : List ℕ) → length results ≡ size → new ++ results ≡ old ++ accepted_record xid stat results)
+accepted_behind (Ok x) old new size xid stat gained = λ results long.
+    ap (λ (front : List ℕ). front ++ results) gained ∙ append_assoc old (accepted_head size xid stat) results
+    ∙ ap (λ (n : ℕ). old ++ (accepted_head n xid stat ++ results)) (sym long) ∙ ap (λ (t : List ℕ). old ++ t) (sym (accepted_parted xid stat results))
+accepted_behind (Err e) old new size xid stat gained = gained
 
 pub denied_two-spelled : (xid : ℕ) (words : List ℕ) → length words ≡ 3
     → denied_record xid 2 words ≡ head_bytes 20 xid 1 ++ (word.spelling (slice_index words 0) ++ word.spelling (slice_index words 1))

@@ -41,6 +41,10 @@ accepted xid stat = record { head = record { xid = xid; kind = 1; stat = 0 }; ve
 unfoldable pub head_bytes : ℕ → ℕ → ℕ → List ℕ
 head_bytes size xid stat = word.spelling (2 ^ 31 + size) ++ reply_head.spelling (record { xid = xid; kind = 1; stat = stat })
 
+-- what stands before the results of an accepted reply, of so many bytes of results: the mark and the head
+unfoldable pub accepted_head : ℕ → ℕ → ℕ → List ℕ
+accepted_head size xid stat = word.spelling (2 ^ 31 + (24 + size)) ++ accepted_reply.spelling (accepted xid stat)
+
 -- the record of an accepted reply with these results
 unfoldable pub accepted_record : ℕ → ℕ → List ℕ → List ℕ
 accepted_record xid stat results = marked (accepted_reply.spelling (accepted xid stat) ++ results)

@@ -12,7 +12,7 @@ mod reply;
 
 pub use call::{CallHead, HeadFault, head_is_lawful, read_call};
 pub use credential::{CredFault, Who, credential_is_lawful, own_cred, read_cred};
-pub use reply::{reply_is_lawful, write_accepted, write_denied};
+pub use reply::{reply_is_lawful, write_accepted, write_accepted_head, write_denied};
 
 #[cfg(test)]
 mod tests;

@@ -1,8 +1,8 @@
 //! The record of a reply.
 
-ghost use Rattle.std.specs.Prelude.{◌≡◌, ◌+◌, ◌-◌, ◌*◌, ◌^◌, ◌<◌, ◌≤◌, ◌++◌, length, vec_len, vec_capacity, OnOk, OnErr, IsOk};
+ghost use Rattle.std.specs.Prelude.{◌≡◌, ◌+◌, ◌-◌, ◌*◌, ◌^◌, ◌<◌, ◌≤◌, ◌++◌, length, ℕ, List, vec_len, vec_capacity, OnOk, OnErr, IsOk};
 ghost use Rattle.xdr_grammar.specs.Laws.{Laws};
-ghost use Rattle.rpc_msg.specs.Replies.{accepted_reply, head_bytes, accepted_record, denied_record};
+ghost use Rattle.rpc_msg.specs.Replies.{accepted_reply, head_bytes, accepted_head, accepted_record, denied_record};
 
 use nfs3_types::NoMemory;
 use xdr::put_word;
@@ -43,6 +43,41 @@ fn put_head(out: &mut Vec<u8>, size: u32, xid: u32, stat: u32) -> Result<(), NoM
     put_word(out, stat)
 }
 
+/// Puts the mark and the head of an accepted reply whose results have `size` bytes.
+fn put_accepted_head(out: &mut Vec<u8>, size: u32, xid: u32, stat: u32) -> Result<(), NoMemory>
+    requires { size < 2 ^ 31 - 24 }
+    ensures ok { OnOk result (out.new.items ≡ out.old.items ++ accepted_head size xid stat) }
+    ensures len { OnOk result (vec_len out.new ≡ vec_len out.old + 28) }
+    ensures room { vec_len out.old + 28 ≤ vec_capacity out.old → IsOk result }
+    ensures capacity { vec_capacity out.old ≤ vec_capacity out.new }
+{
+    put_head(out, ACCEPTED_HEAD as u32 + size, xid, MSG_ACCEPTED)?;
+    put_word(out, AUTH_NONE)?;
+    put_word(out, 0)?;
+    put_word(out, stat)
+}
+
+/// Adds what stands before the results of an accepted reply whose results have `size` bytes: the mark, and
+/// the head with a verifier of flavor AUTH_NONE and how the call went (accept_stat). So many bytes that are
+/// put behind it make it the whole record. At `NoMemory` the buffer holds what it held.
+pub fn write_accepted_head(
+    xid: u32,
+    stat: u32,
+    size: u32,
+    out: &mut Vec<u8>,
+) -> Result<(), NoMemory>
+    requires { size < 2 ^ 31 - 24 }
+    ensures ok { OnOk result ((results : List ℕ) → length results ≡ size
+        → out.new.items ++ results ≡ out.old.items ++ accepted_record xid stat results) }
+    ensures len { OnOk result (vec_len out.new ≡ vec_len out.old + 28) }
+    ensures err { OnErr result (out.new.items ≡ out.old.items) }
+    ensures room { vec_len out.old + 28 ≤ vec_capacity out.old → IsOk result }
+    ensures capacity { vec_capacity out.old ≤ vec_capacity out.new }
+{
+    out.reserve(4 + ACCEPTED_HEAD)?;
+    put_accepted_head(out, size, xid, stat)
+}
+
 /// Puts an accepted reply into room that was reserved.
 fn put_accepted(out: &mut Vec<u8>, xid: u32, stat: u32, results: &[u8]) -> Result<(), NoMemory>
     requires { length results.now < 2 ^ 31 - 24 }
@@ -50,15 +85,7 @@ fn put_accepted(out: &mut Vec<u8>, xid: u32, stat: u32, results: &[u8]) -> Resul
     ensures room { vec_len out.old + (28 + length results.now) ≤ vec_capacity out.old → IsOk result }
     ensures capacity { vec_capacity out.old ≤ vec_capacity out.new }
 {
-    put_head(
-        out,
-        (ACCEPTED_HEAD + results.len()) as u32,
-        xid,
-        MSG_ACCEPTED,
-    )?;
-    put_word(out, AUTH_NONE)?;
-    put_word(out, 0)?;
-    put_word(out, stat)?;
+    put_accepted_head(out, results.len() as u32, xid, stat)?;
     out.extend_from_slice(results)?;
     Ok(())
 }

@@ -72,8 +72,8 @@ fn credentials_are_read_and_refused(rt: HostRuntime) {
     }
 }
 
-/// A denial for the RPC version, one for the credential, and an accepted reply that names the version it
-/// has: the last four words of each stand in RFC 5531's order.
+/// A denial for the RPC version, one for the credential, an accepted reply that names the version it has,
+/// and the head of one with four bytes of results: the words of each stand in RFC 5531's order.
 #[test]
 fn replies_are_records(rt: HostRuntime) -> Result<(), Fail> {
     let mut out = Vec::new(rt.alloc());
@@ -93,6 +93,12 @@ fn replies_are_records(rt: HostRuntime) -> Result<(), Fail> {
     assert_eq!(rt;
         out.as_slice(),
         b"\x80\0\0\x20\0\0\0\x04\0\0\0\x01\0\0\0\0\0\0\0\0\0\0\0\0\0\0\0\x02\0\0\0\x03\0\0\0\x03".as_slice()
+    );
+    out.clear();
+    write_accepted_head(6, 0, 4, &mut out)?;
+    assert_eq!(rt;
+        out.as_slice(),
+        b"\x80\0\0\x1c\0\0\0\x06\0\0\0\x01\0\0\0\0\0\0\0\0\0\0\0\0\0\0\0\0".as_slice()
     );
     Ok(())
 }

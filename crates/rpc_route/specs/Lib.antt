@@ -1,2 +1,3 @@
 pub mod Immediate
 pub mod Routing
+pub mod Sealing

@@ -1,6 +1,6 @@
 //! Routing a record.
 
-ghost use Rattle.std.specs.Prelude.{◌≡◌, ◌-◌, ◌^◌, ◌<◌, ◌≤◌, length, ◌%◌};
+ghost use Rattle.std.specs.Prelude.{◌≡◌, ◌-◌, ◌^◌, ◌<◌, ◌≤◌, length, ◌%◌, vec_capacity};
 ghost use Rattle.rpc_msg.specs.Message.{view};
 ghost use Rattle.xdr_grammar.specs.Whole.{whole};
 ghost use Rattle.rpc_msg.specs.Replies.{accepted_record, denied_record};
@@ -66,7 +66,8 @@ fn accept<'a>(
     out: &mut Vec<u8>,
 ) -> Result<Routed<'a>, RouteFault>
     requires { length results.now < 2 ^ 31 - 24 }
-    ensures { Routes (Replied (accepted_record xid stat results.now)) xid out.old.items out.new.items result }
+    ensures routes { Routes (Replied (accepted_record xid stat results.now)) xid out.old.items out.new.items result }
+    ensures capacity { vec_capacity out.old ≤ vec_capacity out.new }
 {
     match write_accepted(xid, stat, results, out) {
         Ok(()) => Ok(Routed::Ready),
@@ -83,7 +84,8 @@ fn deny<'a>(
 ) -> Result<Routed<'a>, RouteFault>
     requires least { 2 ≤ count }
     requires most { count ≤ 3 }
-    ensures { Routes (Replied (denied_record xid count words)) xid out.old.items out.new.items result }
+    ensures routes { Routes (Replied (denied_record xid count words)) xid out.old.items out.new.items result }
+    ensures capacity { vec_capacity out.old ≤ vec_capacity out.new }
 {
     match write_denied(xid, words, count, out) {
         Ok(()) => Ok(Routed::Ready),
@@ -101,7 +103,8 @@ fn route_nfs<'a>(
 ) -> Result<Routed<'a>, RouteFault>
     requires procedure { procedure ≤ 21 }
     requires whole { length who.now.gids.now % 4 ≡ 0 }
-    ensures { Routes (of_nfs xid (caller_of who.now) procedure (whole (call_of procedure) args.now)) xid out.old.items out.new.items result }
+    ensures routes { Routes (of_nfs xid (caller_of who.now) procedure (whole (call_of procedure) args.now)) xid out.old.items out.new.items result }
+    ensures capacity { vec_capacity out.old ≤ vec_capacity out.new }
 {
     let lent = match read_args(procedure, args) {
         Ok(lent) => lent,
@@ -128,7 +131,8 @@ fn route_mount<'a>(
     out: &mut Vec<u8>,
 ) -> Result<Routed<'a>, RouteFault>
     requires { procedure ≤ 5 }
-    ensures { Routes (of_mount e.now.fsid xid procedure (whole (arguments procedure) args.now)) xid out.old.items out.new.items result }
+    ensures routes { Routes (of_mount e.now.fsid xid procedure (whole (arguments procedure) args.now)) xid out.old.items out.new.items result }
+    ensures capacity { vec_capacity out.old ≤ vec_capacity out.new }
 {
     let before = out.len();
     match answer_mount(procedure, args, e, out) {
@@ -152,7 +156,8 @@ fn route_in_nfs<'a>(
     out: &mut Vec<u8>,
 ) -> Result<Routed<'a>, RouteFault>
     requires { length who.now.gids.now % 4 ≡ 0 }
-    ensures { Routes (in_nfs (view head.now) (caller_of who.now) args.now) head.now.xid out.old.items out.new.items result }
+    ensures routes { Routes (in_nfs (view head.now) (caller_of who.now) args.now) head.now.xid out.old.items out.new.items result }
+    ensures capacity { vec_capacity out.old ≤ vec_capacity out.new }
 {
     if head.vers != VERSION {
         return accept(head.xid, PROG_MISMATCH, VERSIONS, out);
@@ -171,7 +176,8 @@ fn route_in_mount<'a>(
     e: &Exports,
     out: &mut Vec<u8>,
 ) -> Result<Routed<'a>, RouteFault>
-    ensures { Routes (in_mount e.now.fsid (view head.now) args.now) head.now.xid out.old.items out.new.items result }
+    ensures routes { Routes (in_mount e.now.fsid (view head.now) args.now) head.now.xid out.old.items out.new.items result }
+    ensures capacity { vec_capacity out.old ≤ vec_capacity out.new }
 {
     if head.vers != VERSION {
         return accept(head.xid, PROG_MISMATCH, VERSIONS, out);
@@ -192,7 +198,8 @@ fn route_program<'a>(
     out: &mut Vec<u8>,
 ) -> Result<Routed<'a>, RouteFault>
     requires { length who.now.gids.now % 4 ≡ 0 }
-    ensures { Routes (in_program e.now.fsid (view head.now) (caller_of who.now) args.now) head.now.xid out.old.items out.new.items result }
+    ensures routes { Routes (in_program e.now.fsid (view head.now) (caller_of who.now) args.now) head.now.xid out.old.items out.new.items result }
+    ensures capacity { vec_capacity out.old ≤ vec_capacity out.new }
 {
     match head.prog {
         NFS_PROGRAM => route_in_nfs(head, who, args, out),
@@ -219,7 +226,8 @@ fn route_head<'a>(
     e: &Exports,
     out: &mut Vec<u8>,
 ) -> Result<Routed<'a>, RouteFault>
-    ensures { Routes (behind_head e.now.fsid (view head.now) head.now.tail.now) head.now.xid out.old.items out.new.items result }
+    ensures routes { Routes (behind_head e.now.fsid (view head.now) head.now.tail.now) head.now.xid out.old.items out.new.items result }
+    ensures capacity { vec_capacity out.old ≤ vec_capacity out.new }
 {
     if head.rpcvers != RPC_VERSION {
         return deny(head.xid, [0, RPC_VERSION, RPC_VERSION], 3, out);
@@ -235,7 +243,8 @@ fn route_head<'a>(
 /// as it was in every other case. `NoMemory` comes only for such a record, with its transaction id.
 #[tactic(auto, unfolding(crate::specs::Immediate::immediate_reply))]
 pub fn route<'a>(text: &'a [u8], e: &Exports, out: &mut Vec<u8>) -> Result<Routed<'a>, RouteFault>
-    ensures { RoutesRecord (immediate_reply e.now.fsid text.now) text.now out.old.items out.new.items result }
+    ensures routes { RoutesRecord (immediate_reply e.now.fsid text.now) text.now out.old.items out.new.items result }
+    ensures capacity { vec_capacity out.old ≤ vec_capacity out.new }
 {
     let head = match read_call(text) {
         Ok(head) => head,

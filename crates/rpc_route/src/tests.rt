@@ -1,6 +1,9 @@
 use super::*;
 use mount3::Exports;
+use nfs3_res::{ResFault, read_reply};
+use nfs3_types::Status;
 use rpc_msg::HeadFault;
+use std::alloc::Global;
 use std::test::*;
 
 /// The file system 2 ^ 32.
@@ -128,6 +131,74 @@ fn want_of_memory_is_sealed(rt: HostRuntime) -> Result<(), Fail> {
     assert_eq!(rt;
         format!(in rt.alloc(); "{fault}")?.as_str(),
         "no memory for the reply to call 9"
+    );
+    Ok(())
+}
+
+/// The record of the reply that the text is read as, for call 7.
+fn sealed_as_read(alloc: Global, procedure: u32, text: &[u8]) -> Result<Vec<u8>, ResFault> {
+    let mut out = Vec::new(alloc);
+    if procedure > 21 || text.len() > 1000 {
+        return Ok(out);
+    }
+    let reply = read_reply(alloc, procedure, text)?;
+    seal(7, &reply, &mut out)?;
+    Ok(out)
+}
+
+/// A PATHCONF that succeeds: no attributes, 32000 links, names of 255 bytes, true, true, false and true.
+#[test]
+fn a_reply_is_sealed(rt: HostRuntime) -> Result<(), Fail> {
+    let text =
+        b"\0\0\0\0\0\0\0\0\0\0\x7d\0\0\0\0\xff\0\0\0\x01\0\0\0\x01\0\0\0\0\0\0\0\x01".as_slice();
+    let out = sealed_as_read(rt.alloc(), 20, text)
+        .ok()
+        .ok_or("no record")?;
+    assert_eq!(rt;
+        out.as_slice(),
+        b"\x80\0\0\x38\0\0\0\x07\0\0\0\x01\0\0\0\0\0\0\0\0\0\0\0\0\0\0\0\0\0\0\0\0\0\0\0\0\0\0\x7d\0\0\0\0\xff\0\0\0\x01\0\0\0\x01\0\0\0\0\0\0\0\x01".as_slice()
+    );
+    Ok(())
+}
+
+/// Failures of each shape: with nothing told, no attributes, no change, no two changes, and no attributes and
+/// no change.
+#[test]
+fn failures_are_sealed_bare(rt: HostRuntime) -> Result<(), Fail> {
+    let mut out = Vec::with_capacity(rt.alloc(), 48)?;
+    // GETATTR
+    seal_bare(9, 1, Status::Stale, &mut out);
+    assert_eq!(rt;
+        out.as_slice(),
+        b"\x80\0\0\x1c\0\0\0\x09\0\0\0\x01\0\0\0\0\0\0\0\0\0\0\0\0\0\0\0\0\0\0\0\x46".as_slice()
+    );
+    out.clear();
+    // LOOKUP
+    seal_bare(9, 3, Status::NoEnt, &mut out);
+    assert_eq!(rt;
+        out.as_slice(),
+        b"\x80\0\0\x20\0\0\0\x09\0\0\0\x01\0\0\0\0\0\0\0\0\0\0\0\0\0\0\0\0\0\0\0\x02\0\0\0\0".as_slice()
+    );
+    out.clear();
+    // SETATTR
+    seal_bare(9, 2, Status::NotSync, &mut out);
+    assert_eq!(rt;
+        out.as_slice(),
+        b"\x80\0\0\x24\0\0\0\x09\0\0\0\x01\0\0\0\0\0\0\0\0\0\0\0\0\0\0\0\0\0\0\x27\x12\0\0\0\0\0\0\0\0".as_slice()
+    );
+    out.clear();
+    // RENAME
+    seal_bare(9, 14, Status::Xdev, &mut out);
+    assert_eq!(rt;
+        out.as_slice(),
+        b"\x80\0\0\x2c\0\0\0\x09\0\0\0\x01\0\0\0\0\0\0\0\0\0\0\0\0\0\0\0\0\0\0\0\x12\0\0\0\0\0\0\0\0\0\0\0\0\0\0\0\0".as_slice()
+    );
+    out.clear();
+    // LINK
+    seal_bare(9, 15, Status::MLink, &mut out);
+    assert_eq!(rt;
+        out.as_slice(),
+        b"\x80\0\0\x28\0\0\0\x09\0\0\0\x01\0\0\0\0\0\0\0\0\0\0\0\0\0\0\0\0\0\0\0\x1f\0\0\0\0\0\0\0\0\0\0\0\0".as_slice()
     );
     Ok(())
 }

@@ -1,0 +1,6 @@
+use Rattle.std.proofs.Common.{rules, append_assoc}
+use Rattle.rpc_msg.proofs.ReplyHeads.{accepted_head-spelled}
+use Rattle.rpc_msg.proofs.reply.put_accepted_head.Goals as goal
+
+pub returns-clause-ok : goal.returns-clause-ok
+returns-clause-ok c = rw (accepted_head-spelled _ _ _) (search (rules, append_assoc))
