@@ -1,0 +1,128 @@
+-- READDIR and READDIRPLUS (RFC 1813, sections 3.3.16 and 3.3.17).
+use Rattle.std.specs.Prelude.{ℕ, ◌+◌, ◌-◌, ◌*◌, ◌/◌, ◌==◌, nat_le, nat_lt, Bool, ◌||◌, ◌&&◌, not, min, if◌then◌else◌, List, [], ◌∷◌, length, map, filter, replicate, bytes_eq, codes, Some, Ok}
+use Rattle.nfs3_types.specs.declared.args.ReadDirArgs.{ReadDirArgs}
+use Rattle.nfs3_types.specs.declared.args.ReadDirPlusArgs.{ReadDirPlusArgs}
+use Rattle.nfs3_types.specs.declared.body.Body.{Body}
+use Rattle.nfs3_types.specs.declared.body.Body.TheVariants.{ReadDir, ReadDirPlus}
+use Rattle.nfs3_types.specs.declared.body.DirEntry.{DirEntry}
+use Rattle.nfs3_types.specs.declared.body.DirEntryPlus.{DirEntryPlus}
+use Rattle.nfs3_types.specs.declared.cred.Cred.{Cred}
+use Rattle.nfs3_types.specs.declared.status.Status.TheVariants.{Acces, BadCookie, TooSmall}
+use Rattle.fs_rules.specs.declared.place.Place.{Place}
+use Rattle.fs_rules.specs.Checks.{Check, ◌>>=◌, as_directory, found, unless}
+use Rattle.fs_rules.specs.Limits.{most_transfer}
+use Rattle.fs_rules.specs.Outcomes.{shown}
+use Rattle.fs_rules.specs.Places.{Object, above, attributes, beside, fileid_at, handle_at}
+use Rattle.fs_rules.specs.Rights.{may_read}
+use Rattle.fs_rules.specs.declared.name.Name.{Name}
+use Rattle.fs_rules.specs.Tree.{Tree}
+
+-- a name that is listed, and where it leads
+pub record Listed : Type 0 where
+  pub cookie : ℕ
+  pub name : List ℕ
+  pub place : Place
+
+abbrev pub listed : Place → Name → Listed
+listed directory e = record { cookie = e.cookie; name = e.name; place = beside directory e }
+
+-- all that a directory lists, by rising cookie: itself, the directory above it, and its names
+unfoldable pub listing : Object → List Listed
+listing o =
+    record { cookie = 1; name = codes "."; place = o.place }
+    ∷ record { cookie = 2; name = codes ".."; place = above o.place o.node }
+    ∷ map (listed o.place) o.node.names
+
+-- what is listed behind a cookie
+abbrev pub behind : ℕ → List Listed → List Listed
+behind cookie entries = filter (λ e. nat_lt cookie e.cookie) entries
+
+-- ---- how much is told at once
+
+-- a text's bytes with its padding
+abbrev pub padded : List ℕ → ℕ
+padded text = 4 * ((length text + 3) / 4)
+
+-- an entry of READDIR: that it is there, its number, its name and its cookie
+abbrev pub entry_size : Listed → ℕ
+entry_size e = 24 + padded e.name
+
+-- an entry of READDIRPLUS has its attributes and its handle too
+abbrev pub entry_plus_size : Listed → ℕ
+entry_plus_size e = 144 + padded e.name
+
+-- what else a result says: the directory's attributes, the verifier, that no entry follows, and whether it is
+-- the end
+abbrev pub bare_size : ℕ
+bare_size = 104
+
+-- the entries from the first on that fit into so many bytes
+unfoldable pub fitting : (Listed → ℕ) → ℕ → List Listed → List Listed
+fitting size room [] = []
+fitting size room (e ∷ entries) = if nat_le (size e) room then e ∷ fitting size (room - size e) entries else []
+
+-- the most bytes of a result
+abbrev pub limit : ℕ → ℕ
+limit count = min count most_transfer
+
+abbrev pub is_zeros : List ℕ → Bool
+is_zeros verifier = bytes_eq verifier (replicate 8 0)
+
+-- no entry fits, though one is left, or not even a result without entries
+abbrev pub is_too_small : ℕ → List Listed → List Listed → Bool
+is_too_small count left told = nat_lt (limit count) bare_size || (nat_lt 0 (length left) && (length told == 0))
+
+pub record Page : Type 0 where
+  pub directory : Object
+  pub told : List Listed
+  pub eof : Bool
+
+-- the entries that are told: those behind the cookie, as many as fit
+unfoldable pub page : Tree → Cred → (Listed → ℕ) → List ℕ → ℕ → List ℕ → ℕ → Check Page
+page t cred size handle cookie verifier count = do
+  o ← found t handle
+  _ ← as_directory o
+  _ ← unless (not (may_read cred o.node)) Acces
+  -- the verifier is always zeros
+  _ ← unless (not (cookie == 0) && not (is_zeros verifier)) BadCookie
+  _ ← unless (is_too_small count (behind cookie (listing o)) (fitting size (limit count - bare_size) (behind cookie (listing o)))) TooSmall
+  Ok (record {
+    directory = o;
+    told = fitting size (limit count - bare_size) (behind cookie (listing o));
+    eof = length (fitting size (limit count - bare_size) (behind cookie (listing o))) == length (behind cookie (listing o));
+  })
+
+-- ---- the two procedures
+
+abbrev pub entry : Listed → DirEntry
+entry e = record { fileid = fileid_at e.place; name = e.name; cookie = e.cookie }
+
+unfoldable pub read_dir : Tree → Cred → ReadDirArgs (List ℕ) → Check Body
+read_dir t cred a = do
+  p ← page t cred entry_size a.directory a.cookie a.verifier a.count
+  Ok (ReadDir (record {
+    attributes = Some (attributes t p.directory);
+    verifier = replicate 8 0;
+    entries = map entry p.told;
+    eof = p.eof;
+  }))
+
+abbrev pub entry_plus : Tree → Listed → DirEntryPlus
+entry_plus t e = record {
+  fileid = fileid_at e.place;
+  name = e.name;
+  cookie = e.cookie;
+  attributes = shown t e.place;
+  object = Some (handle_at t e.place);
+}
+
+-- the smaller count, of what READDIR would tell, is not looked at
+unfoldable pub read_dir_plus : Tree → Cred → ReadDirPlusArgs (List ℕ) → Check Body
+read_dir_plus t cred a = do
+  p ← page t cred entry_plus_size a.directory a.cookie a.verifier a.maxcount
+  Ok (ReadDirPlus (record {
+    attributes = Some (attributes t p.directory);
+    verifier = replicate 8 0;
+    entries = map (entry_plus t) p.told;
+    eof = p.eof;
+  }))

@@ -1,0 +1,53 @@
+-- Names in directories (RFC 1813, section 3.2: the server says which names it takes).
+use Rattle.std.specs.Prelude.{ℕ, ◌==◌, nat_lt, Bool, false, ◌||◌, if◌then◌else◌, List, [], ◌∷◌, length, codes, bytes_eq, find, Option, Some, None}
+use Rattle.nfs3_types.specs.declared.status.Status.{Status}
+use Rattle.nfs3_types.specs.declared.status.Status.TheVariants.{Inval, NameTooLong}
+use Rattle.fs_rules.specs.Limits.{longest_name, longest_target}
+use Rattle.fs_rules.specs.declared.name.Name.{Name}
+use Rattle.fs_rules.specs.Tree.{Node}
+
+abbrev pub has_byte : ℕ → List ℕ → Bool
+has_byte byte [] = false
+has_byte byte (b ∷ text) = (b == byte) || has_byte byte text
+
+-- NUL ends a text in C, and a slash ends a name in a path
+abbrev pub has_nul : List ℕ → Bool
+has_nul text = has_byte 0 text
+
+abbrev pub has_slash : List ℕ → Bool
+has_slash text = has_byte 47 text
+
+-- what is wrong with a name: it is empty or has a NUL or a slash, or else it is too long
+unfoldable pub name_fault : List ℕ → Option Status
+name_fault name =
+    if (length name == 0) || has_nul name || has_slash name then Some Inval
+    else (if nat_lt longest_name (length name) then Some NameTooLong else None)
+
+-- what is wrong with a symbolic link's path
+unfoldable pub target_fault : List ℕ → Option Status
+target_fault target =
+    if (length target == 0) || has_nul target then Some Inval
+    else (if nat_lt longest_target (length target) then Some NameTooLong else None)
+
+-- ---- names that are there without an entry
+
+abbrev pub is_dot : List ℕ → Bool
+is_dot name = bytes_eq name (codes ".")
+
+abbrev pub is_dot_dot : List ℕ → Bool
+is_dot_dot name = bytes_eq name (codes "..")
+
+abbrev pub is_dots : List ℕ → Bool
+is_dots name = is_dot name || is_dot_dot name
+
+abbrev pub names_snapshots : List ℕ → Bool
+names_snapshots name = bytes_eq name (codes ".snapshot")
+
+-- ---- entries
+
+unfoldable pub has_name : List ℕ → Name → Bool
+has_name name e = bytes_eq e.name name
+
+-- the entry of this name in a directory
+unfoldable pub named : List ℕ → Node → Option Name
+named name directory = find (has_name name) directory.names

@@ -1,0 +1,42 @@
+-- Who may do what (RFC 1813, section 4.4): user 0 all; the owner by the owner's bits of the mode, else a member
+-- of the group by the group's, else by the others'.
+use Rattle.std.specs.Prelude.{ℕ, ◌+◌, ◌*◌, ◌/◌, ◌%◌, ◌==◌, Bool, true, false, ◌||◌, ◌&&◌, not, if◌then◌else◌, List, [], ◌∷◌, bit_and, is_some, find}
+use Rattle.byteorder.specs.Endian.{big_number}
+use Rattle.nfs3_types.specs.declared.cred.Cred.{Cred}
+use Rattle.fs_rules.specs.Tree.{Node}
+
+-- a word is among words of four bytes each, the highest first
+abbrev pub has_word : ℕ → List ℕ → Bool
+has_word w (a ∷ b ∷ c ∷ d ∷ rest) = (big_number 4 (a ∷ b ∷ c ∷ d ∷ []) == w) || has_word w rest
+has_word w bytes = false
+
+unfoldable pub is_in_group : Cred → ℕ → Bool
+is_in_group cred gid = (cred.gid == gid) || has_word gid cred.gids
+
+-- the three bits of a mode that count for the caller
+unfoldable pub bits_for : Cred → ℕ → ℕ → ℕ → ℕ
+bits_for cred mode uid gid =
+    if cred.uid == uid then mode / 64 % 8
+    else (if is_in_group cred gid then mode / 8 % 8 else mode % 8)
+
+-- the caller may do all that is wanted: a sum of 4, to read, 2, to write, and 1, to execute or to look up
+unfoldable pub may : Cred → ℕ → ℕ → ℕ → ℕ → Bool
+may cred mode uid gid want = (cred.uid == 0) || (bit_and (bits_for cred mode uid gid) want == want)
+
+-- ---- of a node
+
+abbrev pub may_do : Cred → Node → ℕ → Bool
+may_do cred n want = may cred n.mode n.uid n.gid want
+
+abbrev pub may_read : Cred → Node → Bool
+may_read cred n = may_do cred n 4
+
+abbrev pub may_write : Cred → Node → Bool
+may_write cred n = may_do cred n 2
+
+abbrev pub may_search : Cred → Node → Bool
+may_search cred n = may_do cred n 1
+
+-- user 0 and the owner
+abbrev pub owns : Cred → ℕ → Bool
+owns cred uid = (cred.uid == 0) || (cred.uid == uid)

@@ -1,0 +1,105 @@
+-- What is told of a file and of the file system: GETATTR, ACCESS, READLINK, FSSTAT, FSINFO and PATHCONF (RFC
+-- 1813, sections 3.3.1, 3.3.4, 3.3.5 and 3.3.18 to 3.3.20).
+use Rattle.std.specs.Prelude.{ℕ, ◌+◌, ◌^◌, Bool, true, false, ◌&&◌, not, if◌then◌else◌, bit_and, List, Some, Ok}
+use Rattle.nfs3_types.specs.declared.args.AccessArgs.{AccessArgs}
+use Rattle.nfs3_types.specs.declared.body.Body.{Body}
+use Rattle.nfs3_types.specs.declared.body.Body.TheVariants.{GetAttr, Access, ReadLink, FsStat, FsInfo, PathConf}
+use Rattle.nfs3_types.specs.declared.cred.Cred.{Cred}
+use Rattle.fs_rules.specs.declared.place.Place.{Place}
+use Rattle.fs_rules.specs.declared.place.Place.TheVariants.{Live, SnapshotDirectory, Kept}
+use Rattle.fs_rules.specs.Attributes.{is_directory}
+use Rattle.fs_rules.specs.Checks.{Check, ◌>>=◌, found, as_link}
+use Rattle.fs_rules.specs.Limits.{longest_name, most_links, most_size, most_transfer}
+use Rattle.fs_rules.specs.Places.{Object, attributes}
+use Rattle.fs_rules.specs.Rights.{may_read, may_search, may_write}
+use Rattle.fs_rules.specs.Tree.{Tree}
+
+unfoldable pub get_attr : Tree → List ℕ → Check Body
+get_attr t handle = do
+  o ← found t handle
+  Ok (GetAttr (attributes t o))
+
+-- ---- ACCESS: READ 1, LOOKUP 2, MODIFY 4, EXTEND 8, DELETE 16, EXECUTE 32
+
+abbrev pub bits_if : ℕ → Bool → ℕ
+bits_if bits allowed = if allowed then bits else 0
+
+-- nothing in a snapshot is modified, extended or deleted
+abbrev pub is_kept : Place → Bool
+is_kept (Live fileid) = false
+is_kept SnapshotDirectory = false
+is_kept (Kept number fileid) = true
+
+abbrev pub in_directory : Cred → Object → ℕ
+in_directory cred o =
+    bits_if 1 (may_read cred o.node) + bits_if 2 (may_search cred o.node)
+    + bits_if 28 (may_write cred o.node && may_search cred o.node && not (is_kept o.place))
+
+abbrev pub of_other : Cred → Object → ℕ
+of_other cred o =
+    bits_if 1 (may_read cred o.node) + bits_if 32 (may_search cred o.node)
+    + bits_if 12 (may_write cred o.node && not (is_kept o.place))
+
+-- what the caller is allowed
+unfoldable pub allowed : Cred → Object → ℕ
+allowed cred o = if is_directory o.node.kind then in_directory cred o else of_other cred o
+
+unfoldable pub access : Tree → Cred → AccessArgs (List ℕ) → Check Body
+access t cred a = do
+  o ← found t a.object
+  Ok (Access (record { attributes = Some (attributes t o); access = bit_and a.access (allowed cred o) }))
+
+unfoldable pub read_link : Tree → List ℕ → Check Body
+read_link t handle = do
+  o ← found t handle
+  _ ← as_link o
+  Ok (ReadLink (record { attributes = Some (attributes t o); target = o.node.content }))
+
+-- ---- the file system
+
+-- there is always room for 2^60 bytes and files more
+unfoldable pub fs_stat : Tree → List ℕ → Check Body
+fs_stat t handle = do
+  o ← found t handle
+  Ok (FsStat (record {
+    attributes = Some (attributes t o);
+    tbytes = 2 ^ 60;
+    fbytes = 2 ^ 60;
+    abytes = 2 ^ 60;
+    tfiles = 2 ^ 60;
+    ffiles = 2 ^ 60;
+    afiles = 2 ^ 60;
+    invarsec = 0;
+  }))
+
+-- transfers are best of 4,096 bytes; times are kept to the nanosecond; there are hard links, 1, and symbolic
+-- ones, 2, all files are alike, 8, and times can be set, 16
+unfoldable pub fs_info : Tree → List ℕ → Check Body
+fs_info t handle = do
+  o ← found t handle
+  Ok (FsInfo (record {
+    attributes = Some (attributes t o);
+    rtmax = most_transfer;
+    rtpref = most_transfer;
+    rtmult = 4096;
+    wtmax = most_transfer;
+    wtpref = most_transfer;
+    wtmult = 4096;
+    dtpref = most_transfer;
+    maxfilesize = most_size;
+    time_delta = record { seconds = 0; nanos = 1 };
+    properties = 27;
+  }))
+
+unfoldable pub path_conf : Tree → List ℕ → Check Body
+path_conf t handle = do
+  o ← found t handle
+  Ok (PathConf (record {
+    attributes = Some (attributes t o);
+    linkmax = most_links;
+    name_max = longest_name;
+    no_trunc = true;
+    chown_restricted = true;
+    case_insensitive = false;
+    case_preserving = true;
+  }))

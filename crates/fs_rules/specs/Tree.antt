@@ -1,0 +1,100 @@
+-- The plain tree: all that one export keeps, as plain data. A snapshot is a whole copy, and a file's content is
+-- all of its bytes (RFC 1813, sections 1.6 and 2.6; snapshots, lanes and cuts are this service's own).
+use Rattle.std.specs.Prelude.{ℕ, ◌==◌, if◌then◌else◌, List, [], ◌∷◌, slice_index_or, Option, Some, None}
+use Rattle.nfs3_types.specs.declared.file_type.FileType.{FileType}
+use Rattle.nfs3_types.specs.declared.file_type.FileType.TheVariants.{Dir}
+use Rattle.nfs3_types.specs.declared.moment.Moment.{Moment}
+use Rattle.fs_rules.specs.declared.name.Name.{Name}
+use Rattle.fs_rules.specs.declared.times.Times.{Times}
+
+pub record Node : Type 0 where
+  pub kind : FileType
+  pub mode : ℕ
+  pub nlink : ℕ
+  pub uid : ℕ
+  pub gid : ℕ
+  pub atime : Moment
+  pub mtime : Moment
+  pub ctime : Moment
+  -- the bytes of a file, or the path that a symbolic link leads to
+  pub content : List ℕ
+  -- what a directory has, by rising cookie
+  pub names : List Name
+  -- the cookie of the next name that a directory gets
+  pub next_cookie : ℕ
+  -- the directory that a directory stands in
+  pub parent : ℕ
+  -- the verifier of the EXCLUSIVE CREATE that made the file
+  pub verifier : Option (List ℕ)
+  -- how often a call made the file smaller
+  pub cuts : ℕ
+
+-- nodes by their numbers
+abbrev pub Nodes : Type 0
+Nodes = ℕ → Option Node
+
+pub record Snapshot : Type 0 where
+  pub name : List ℕ
+  pub number : ℕ
+  pub nodes : Nodes
+
+pub record Tree : Type 0 where
+  -- the live tree
+  pub nodes : Nodes
+  -- the numbers of the next new files, by the sixteen lanes of the calls that make them
+  pub next_fileids : List ℕ
+  -- the number of the next snapshot
+  pub epoch : ℕ
+  -- the times of the directory `.snapshot`
+  pub snapshot_times : Times
+  -- by rising number
+  pub snapshots : List Snapshot
+  pub fsid : ℕ
+  -- what tells a client that the server did not lose what it wrote (writeverf3)
+  pub verifier : List ℕ
+
+-- the number of the next new file of a lane
+abbrev pub next_fileid : Tree → ℕ → ℕ
+next_fileid t lane = slice_index_or t.next_fileids lane 0
+
+-- ---- the first tree
+
+abbrev pub always : Moment → Times
+always at = record { atime = at; mtime = at; ctime = at }
+
+-- a directory of mode 0755 of owner and group 0, with these names; it is its own parent
+unfoldable pub root_at : Moment → Node
+root_at first = record {
+  kind = Dir;
+  mode = 493;
+  nlink = 2;
+  uid = 0;
+  gid = 0;
+  atime = first;
+  mtime = first;
+  ctime = first;
+  content = [];
+  names = [];
+  next_cookie = 3;
+  parent = 1;
+  verifier = None;
+  cuts = 0;
+}
+
+abbrev pub first_nodes : Moment → Nodes
+first_nodes first = λ fileid. if fileid == 1 then Some (root_at first) else None
+
+abbrev pub first_fileids : List ℕ
+first_fileids = 16 ∷ 17 ∷ 18 ∷ 19 ∷ 20 ∷ 21 ∷ 22 ∷ 23 ∷ 24 ∷ 25 ∷ 26 ∷ 27 ∷ 28 ∷ 29 ∷ 30 ∷ 31 ∷ []
+
+-- the tree as it begins: the root is file 1, and lane l gives the numbers 16 + l, 32 + l and so on
+unfoldable pub first_tree : ℕ → List ℕ → Moment → Tree
+first_tree fsid verifier first = record {
+  nodes = first_nodes first;
+  next_fileids = first_fileids;
+  epoch = 1;
+  snapshot_times = always first;
+  snapshots = [];
+  fsid = fsid;
+  verifier = verifier;
+}
