@@ -1,0 +1,4 @@
+pub mod ContentLaws
+pub mod Cuts
+pub mod PieceLaws
+pub mod Replaced
