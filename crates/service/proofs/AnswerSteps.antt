@@ -1,8 +1,7 @@
 -- Steps of answering: one record, and records in a row.
-use Rattle.std.proofs.Common.{◌≡◌, ◌==◌, false, ℕ, ◌+◌, ◌-◌, ◌≤◌, ◌<◌, Bool, cond, List, [], ◌∷◌, ◌++◌, length, take, drop, count_by, Option, None, Result, Ok, Err, refl, sym, ◌∙◌, ap, arith, append_assoc, inl, inr, subst}
+use Rattle.std.proofs.Common.{◌≡◌, ◌==◌, false, ℕ, ◌-◌, ◌≤◌, ◌<◌, Bool, List, [], ◌∷◌, ◌++◌, length, take, drop, Option, None, Some, Result, Ok, Err, refl, sym, ◌∙◌, ap, arith, append_assoc, inl, inr, subst}
 use Rattle.std.proofs.lemmas.Bool.{cases_lt}
-use Rattle.std.proofs.lemmas.List.{append-nil, length-append, length-take, length-drop, take-append-drop, take_rest, take_all}
-use Rattle.std.proofs.lemmas.List.Sums.{sum_by-append}
+use Rattle.std.proofs.lemmas.List.{append-nil, length-take, length-drop, take-append-drop, take_rest, take_all}
 use Rattle.nfs3_types.specs.declared.moment.Moment.{Moment}
 use Rattle.outside.specs.Told.{Gains}
 use Rattle.outside.specs.Clock.{GaveMoments}
@@ -17,10 +16,12 @@ use Rattle.rpc_records.specs.Stream.{HasRead}
 use Rattle.service.specs.declared.no_reply.NoReply.{NoReply}
 use Rattle.service.specs.declared.session.SessionEnd.{SessionEnd}
 use Rattle.service.specs.declared.session.SessionEnd.TheVariants.{TooLong, WriteFault}
-use Rattle.service.specs.Transcript.{end_without}
-use Rattle.service.specs.Session.{Serves, GaveIf, GainsFront}
-use Rattle.service.specs.Steps.{IsReading, Went, GoesOn, StopsAs, Answered}
-use Rattle.service.proofs.TranscriptSteps.{replied-nil, replied-one, replied-append, stops-too_long, stops-no_reply, stops-writing}
+use Rattle.service.specs.Turns.{Answering, Turn, contents, moments_of, transcript, tree_behind, no_reply}
+use Rattle.service.specs.Course.{end_without}
+use Rattle.service.specs.Session.{Serves, Wrote, GainsFront}
+use Rattle.service.specs.Steps.{TakesTurn, IsReading, Went, GoesOn, StopsAs, Answered, AnsweredAll, AnsweredUntil}
+use Rattle.service.proofs.CourseSteps.{answered-nil, answered-one, answered-append, stops-too_long, stops-no_reply, stops-writing}
+use Rattle.service.proofs.TurnSteps.{contents-append, moments-append, behind-append, transcript-append, wrote-behind, wrote-all}
 
 -- ---- parts of a text, one behind the other
 
@@ -28,91 +29,29 @@ went-append : (old mid new : Progress) (p q : List ℕ) (rs ss : List (List ℕ)
 went-append old mid new p q rs ss first then text before h =
     rw (← append_assoc text p q, ← append_assoc before rs ss) (then (text ++ p) (before ++ rs) (first text before h))
 
-pub went-nil : (now : Progress) → Went now now [] []
+went-nil : (now : Progress) → Went now now [] []
 went-nil now text before h = rw (append-nil text, append-nil before) h
 
-pub goes_on-append : (reply : List ℕ → Result (List ℕ) NoReply) (old mid new : Progress) (p q : List ℕ) (rs ss : List (List ℕ)) (bs cs : List ℕ) → GoesOn reply old mid p rs bs → GoesOn reply mid new q ss cs → GoesOn reply old new (p ++ q) (rs ++ ss) (bs ++ cs)
-goes_on-append reply old mid new p q rs ss bs cs first then = record {
+goes_on-append : (none : List ℕ → Option NoReply) (old mid new : Progress) (p q : List ℕ) (rs ss : List (List ℕ)) → GoesOn none old mid p rs → GoesOn none mid new q ss → GoesOn none old new (p ++ q) (rs ++ ss)
+goes_on-append none old mid new p q rs ss first then = record {
   went = went-append old mid new p q rs ss first.went then.went;
-  replied = replied-append reply rs ss bs cs first.replied then.replied;
+  answered = answered-append none rs ss first.answered then.answered;
 }
 
-pub stops-append : (reply : List ℕ → Result (List ℕ) NoReply) (end : SessionEnd) (old mid : Progress) (p q : List ℕ) (rs ss : List (List ℕ)) (bs cs : List ℕ) → GoesOn reply old mid p rs bs → StopsAs reply end mid q ss cs → StopsAs reply end old (p ++ q) (rs ++ ss) (bs ++ cs)
-stops-append reply end old mid p q rs ss bs cs first then text before sent h replied =
-    rw (← append_assoc text p q, ← append_assoc before rs ss, ← append_assoc sent bs cs)
-    (then (text ++ p) (before ++ rs) (sent ++ bs) (first.went text before h) (replied-append reply before rs sent bs replied first.replied))
-
--- ---- what was served
-
-serves-none : {C K : Type 0} (needs : List ℕ → Bool) (given : C → Option (List Moment)) (to_come : C → Option (ℕ → Moment)) (written : K → Option (List ℕ)) (clock clock' : C) (sink : K) → GaveMoments given to_come clock clock' [] → Serves needs given to_come written clock clock' sink sink [] []
-serves-none needs given to_come written clock clock' sink gave = record { moments = []; count = refl; gave = gave; gained = gains-nil (written sink) }
-
-one_count : (needs : List ℕ → Bool) (content : List ℕ) → cond (needs content) 1 0 ≡ count_by needs (content ∷ [])
-one_count needs content = grind arith
-
-serves-one : {C K : Type 0} (needs : List ℕ → Bool) (given : C → Option (List Moment)) (to_come : C → Option (ℕ → Moment)) (written : K → Option (List ℕ)) (clock clock' : C) (sink sink' : K) (content bytes : List ℕ) → GaveIf given to_come clock clock' (needs content) → Gains (written sink) (written sink') bytes → Serves needs given to_come written clock clock' sink sink' (content ∷ []) bytes
-serves-one needs given to_come written clock clock' sink sink' content bytes gave gained = record { moments = gave.moments; count = gave.count ∙ one_count needs content; gave = gave.gave; gained = gained }
-
-pub serves-append : {C K : Type 0} (needs : List ℕ → Bool) (given : C → Option (List Moment)) (to_come : C → Option (ℕ → Moment)) (written : K → Option (List ℕ)) (clock clock' clock'' : C) (sink sink' sink'' : K) (rs ss : List (List ℕ)) (bs cs : List ℕ) → Serves needs given to_come written clock clock' sink sink' rs bs → Serves needs given to_come written clock' clock'' sink' sink'' ss cs → Serves needs given to_come written clock clock'' sink sink'' (rs ++ ss) (bs ++ cs)
-serves-append needs given to_come written clock clock' clock'' sink sink' sink'' rs ss bs cs first then = record {
-  moments = first.moments ++ then.moments;
-  count = length-append first.moments then.moments ∙ ap (λ n. n + length then.moments) first.count ∙ ap (λ n. count_by needs rs + n) then.count ∙ sym (sum_by-append (λ x. cond (needs x) 1 0) rs ss);
-  gave = gave_moments-append given to_come clock clock' clock'' first.moments then.moments first.gave then.gave;
-  gained = gains-append (written sink) (written sink') (written sink'') bs cs first.gained then.gained;
-}
-
--- what was answered in one part and then in another
-pub answered-append : {C K : Type 0} (needs : List ℕ → Bool) (given : C → Option (List Moment)) (to_come : C → Option (ℕ → Moment)) (written : K → Option (List ℕ)) (clock clock' clock'' : C) (sink sink' sink'' : K) (First Then Both : List (List ℕ) → List ℕ → Type 0)
-    → ((rs ss : List (List ℕ)) (bs cs : List ℕ) → First rs bs → Then ss cs → Both (rs ++ ss) (bs ++ cs))
-    → Answered needs given to_come written clock clock' sink sink' First → Answered needs given to_come written clock' clock'' sink' sink'' Then → Answered needs given to_come written clock clock'' sink sink'' Both
-answered-append needs given to_come written clock clock' clock'' sink sink' sink'' First Then Both join first then = record {
-  records = first.records ++ then.records;
-  bytes = first.bytes ++ then.bytes;
-  serves = serves-append needs given to_come written clock clock' clock'' sink sink' sink'' first.records then.records first.bytes then.bytes first.serves then.serves;
-  ends = join first.records then.records first.bytes then.bytes first.ends then.ends;
-}
-
-pub answered-none : {C K : Type 0} (needs : List ℕ → Bool) (given : C → Option (List Moment)) (to_come : C → Option (ℕ → Moment)) (written : K → Option (List ℕ)) (clock clock' : C) (sink : K) (Ends : List (List ℕ) → List ℕ → Type 0) → GaveMoments given to_come clock clock' [] → Ends [] [] → Answered needs given to_come written clock clock' sink sink Ends
-answered-none needs given to_come written clock clock' sink Ends gave ends = record {
-  records = [];
-  bytes = [];
-  serves = serves-none needs given to_come written clock clock' sink gave;
-  ends = ends;
-}
-
--- ---- the record that is kept
-
--- no record is whole
-pub whole-none : {C K : Type 0} (reply : List ℕ → Result (List ℕ) NoReply) (needs : List ℕ → Bool) (given : C → Option (List Moment)) (to_come : C → Option (ℕ → Moment)) (written : K → Option (List ℕ)) (clock : C) (sink : K) (now : Progress) → Answered needs given to_come written clock clock sink sink (GoesOn reply now now [])
-whole-none reply needs given to_come written clock sink now =
-    answered-none needs given to_come written clock clock sink (GoesOn reply now now []) (gave_moments-nil given to_come clock) (record { went = went-nil now; replied = replied-nil reply })
-
--- it has no reply
-pub whole-no_reply : {C K : Type 0} (reply : List ℕ → Result (List ℕ) NoReply) (needs : List ℕ → Bool) (given : C → Option (List Moment)) (to_come : C → Option (ℕ → Moment)) (written : K → Option (List ℕ)) (clock clock' : C) (sink : K) (now : Progress) (content more : List ℕ) (fault : NoReply) → now ≡ Holding content → reply content ≡ Err fault → GaveMoments given to_come clock clock' [] → Answered needs given to_come written clock clock' sink sink (StopsAs reply (end_without fault) now more)
-whole-no_reply reply needs given to_come written clock clock' sink now content more fault is none gave =
-    answered-none needs given to_come written clock clock' sink (StopsAs reply (end_without fault) now more) gave (rw is (stops-no_reply reply fault content more none))
-
--- its reply is written in part
-pub whole-write_fault : {C K : Type 0} (reply : List ℕ → Result (List ℕ) NoReply) (needs : List ℕ → Bool) (given : C → Option (List Moment)) (to_come : C → Option (ℕ → Moment)) (written : K → Option (List ℕ)) (clock clock' : C) (sink sink' : K) (now : Progress) (content more out : List ℕ) → now ≡ Holding content → reply content ≡ Ok out → GaveIf given to_come clock clock' (needs content) → GainsFront (written sink) (written sink') out → Answered needs given to_come written clock clock' sink sink' (StopsAs reply WriteFault now more)
-whole-write_fault reply needs given to_come written clock clock' sink sink' now content more out is some gave front = record {
-  records = content ∷ [];
-  bytes = front.bytes;
-  serves = serves-one needs given to_come written clock clock' sink sink' content front.bytes gave front.gained;
-  ends = rw is (stops-writing reply content more out front.bytes some front.front);
-}
+stops-append : (none : List ℕ → Option NoReply) (end : SessionEnd) (old mid : Progress) (p q : List ℕ) (rs ss : List (List ℕ)) → GoesOn none old mid p rs → StopsAs none end mid q ss → StopsAs none end old (p ++ q) (rs ++ ss)
+stops-append none end old mid p q rs ss first then text before h answered =
+    rw (← append_assoc text p q, ← append_assoc before rs ss)
+    (then (text ++ p) (before ++ rs) (first.went text before h) (answered-append none before rs answered first.answered))
 
 dropped-went : (now new : Progress) (content : List ℕ) → now ≡ Holding content → ((text : List ℕ) (before : List (List ℕ)) → HasRead text before now → HasRead text (before ++ kept_by now) new) → Went now new [] (content ∷ [])
 dropped-went now new content is stream text before h = rw append-nil (subst (λ (p : Progress). HasRead text (before ++ kept_by p) new) is (stream text before h))
 
--- its reply is written
-pub whole-one : {C K : Type 0} (reply : List ℕ → Result (List ℕ) NoReply) (needs : List ℕ → Bool) (given : C → Option (List Moment)) (to_come : C → Option (ℕ → Moment)) (written : K → Option (List ℕ)) (clock clock' : C) (sink sink' : K) (now new : Progress) (content out : List ℕ) → now ≡ Holding content → reply content ≡ Ok out → GaveIf given to_come clock clock' (needs content) → Gains (written sink) (written sink') out
-    → ((text : List ℕ) (before : List (List ℕ)) → HasRead text before now → HasRead text (before ++ kept_by now) new) → Answered needs given to_come written clock clock' sink sink' (GoesOn reply now new [])
-whole-one reply needs given to_come written clock clock' sink sink' now new content out is some gave gained stream = record {
-  records = content ∷ [];
-  bytes = out;
-  serves = serves-one needs given to_come written clock clock' sink sink' content out gave gained;
-  ends = record { went = dropped-went now new content is stream; replied = replied-one reply content out some };
-}
+-- some bytes were fed
+fed-goes_on : (none : List ℕ → Option NoReply) (now fed : Progress) (part : List ℕ) → ((text : List ℕ) (before : List (List ℕ)) → HasRead text before now → HasRead (text ++ part) before fed) → GoesOn none now fed part []
+fed-goes_on none now fed part stream = record { went = λ text before h. rw append-nil (stream text before h); answered = answered-nil none }
+
+reading-on : (none : List ℕ → Option NoReply) (old new : Progress) (part : List ℕ) (records : List (List ℕ)) → IsReading old → GoesOn none old new part records → IsUnfinished new → IsReading new
+reading-on none old new part records h on unfinished = record { text = h.text ++ part; dropped = h.dropped ++ records; read = on.went h.text h.dropped h.read; unfinished = unfinished }
 
 -- ---- feeding
 
@@ -170,6 +109,94 @@ some-left : (rest : List ℕ) (empty : Bool) → empty ≡ (length rest == 0) �
 some-left [] empty is not = absurd cc
 some-left (x ∷ rest) empty is not = omega arith
 
+-- ---- what was served
+
+module _ {T C K : Type 0} (a : Answering T) (fsid : ℕ) (given : C → Option (List Moment)) (to_come : C → Option (ℕ → Moment)) (written : K → Option (List ℕ)) where
+  pub serves-none : (tree : T) (clock : C) (sink : K) → Serves a fsid given to_come written tree tree clock clock sink sink [] []
+  serves-none tree clock sink = record { tree = refl; gave = gave_moments-nil given to_come clock; gained = gains-nil (written sink) }
+
+  serves-one : (tree tree' : T) (clock clock' : C) (sink sink' : K) (content reply bytes : List ℕ) (taken : TakesTurn a fsid given to_come tree tree' clock clock' content reply) → Gains (written sink) (written sink') bytes → Serves a fsid given to_come written tree tree' clock clock' sink sink' (taken.turn ∷ []) bytes
+  serves-one tree tree' clock clock' sink sink' content reply bytes taken gained = record { tree = taken.tree; gave = taken.gave; gained = gained }
+
+  pub serves-append : (tree tree' tree'' : T) (clock clock' clock'' : C) (sink sink' sink'' : K) (ts us : List Turn) (bs cs : List ℕ) → Serves a fsid given to_come written tree tree' clock clock' sink sink' ts bs → Serves a fsid given to_come written tree' tree'' clock' clock'' sink' sink'' us cs → Serves a fsid given to_come written tree tree'' clock clock'' sink sink'' (ts ++ us) (bs ++ cs)
+  serves-append tree tree' tree'' clock clock' clock'' sink sink' sink'' ts us bs cs first then = record {
+    tree = then.tree ∙ (ap (λ (t : T). tree_behind a fsid t us) first.tree ∙ sym (behind-append a fsid tree ts us));
+    gave = subst (GaveMoments given to_come clock clock'') (sym (moments-append fsid ts us)) (gave_moments-append given to_come clock clock' clock'' (moments_of fsid ts) (moments_of fsid us) first.gave then.gave);
+    gained = gains-append (written sink) (written sink') (written sink'') bs cs first.gained then.gained;
+  }
+
+  -- what was written, behind what was written whole
+  pub wrote-append : (HasWritten : List ℕ → List ℕ → Type 0) (tree tree' : T) (ts us : List Turn) (bs cs : List ℕ) → ((before bytes all : List ℕ) → HasWritten bytes all → HasWritten (before ++ bytes) (before ++ all)) → tree' ≡ tree_behind a fsid tree ts → bs ≡ transcript a fsid tree ts → HasWritten cs (transcript a fsid tree' us) → HasWritten (bs ++ cs) (transcript a fsid tree (ts ++ us))
+  wrote-append HasWritten tree tree' ts us bs cs join behind first then =
+      subst (HasWritten (bs ++ cs))
+      (ap (λ (xs : List ℕ). xs ++ transcript a fsid tree' us) first
+      ∙ (ap (λ (t : T). transcript a fsid tree ts ++ transcript a fsid t us) behind
+      ∙ sym (transcript-append a fsid tree ts us)))
+      (join bs cs (transcript a fsid tree' us) then)
+
+  -- what was answered in one part and then in another
+  answered-join : (tree tree' tree'' : T) (clock clock' clock'' : C) (sink sink' sink'' : K) (HasWritten : List ℕ → List ℕ → Type 0) (First Then Both : List (List ℕ) → Type 0)
+      → ((before bytes all : List ℕ) → HasWritten bytes all → HasWritten (before ++ bytes) (before ++ all))
+      → ((rs ss : List (List ℕ)) → First rs → Then ss → Both (rs ++ ss))
+      → Answered a fsid given to_come written tree tree' clock clock' sink sink' (λ bytes all. bytes ≡ all) First → Answered a fsid given to_come written tree' tree'' clock' clock'' sink' sink'' HasWritten Then → Answered a fsid given to_come written tree tree'' clock clock'' sink sink'' HasWritten Both
+  answered-join tree tree' tree'' clock clock' clock'' sink sink' sink'' HasWritten First Then Both behind join first then = record {
+    turns = first.turns ++ then.turns;
+    bytes = first.bytes ++ then.bytes;
+    serves = serves-append tree tree' tree'' clock clock' clock'' sink sink' sink'' first.turns then.turns first.bytes then.bytes first.serves then.serves;
+    wrote = wrote-append HasWritten tree tree' first.turns then.turns first.bytes then.bytes behind first.serves.tree first.wrote then.wrote;
+    ends = subst Both (sym (contents-append first.turns then.turns)) (join (contents first.turns) (contents then.turns) first.ends then.ends);
+  }
+
+  -- all was answered in one part, and in another
+  answered-both : (tree tree' tree'' : T) (clock clock' clock'' : C) (sink sink' sink'' : K) (old mid new : Progress) (p q : List ℕ) → AnsweredAll a fsid given to_come written tree tree' clock clock' sink sink' old mid p → AnsweredAll a fsid given to_come written tree' tree'' clock' clock'' sink' sink'' mid new q → AnsweredAll a fsid given to_come written tree tree'' clock clock'' sink sink'' old new (p ++ q)
+  answered-both tree tree' tree'' clock clock' clock'' sink sink' sink'' old mid new p q first then =
+      answered-join tree tree' tree'' clock clock' clock'' sink sink' sink'' (λ bytes all. bytes ≡ all) (GoesOn (no_reply a.is_built fsid) old mid p) (GoesOn (no_reply a.is_built fsid) mid new q) (GoesOn (no_reply a.is_built fsid) old new (p ++ q))
+      (λ before bytes all e. ap (λ (xs : List ℕ). before ++ xs) e)
+      (goes_on-append (no_reply a.is_built fsid) old mid new p q) first then
+
+  -- all was answered in one part, and the session ended in another
+  answered-until : (tree tree' tree'' : T) (clock clock' clock'' : C) (sink sink' sink'' : K) (end : SessionEnd) (old mid : Progress) (p q : List ℕ) → AnsweredAll a fsid given to_come written tree tree' clock clock' sink sink' old mid p → AnsweredUntil a fsid given to_come written tree' tree'' clock' clock'' sink' sink'' end mid q → AnsweredUntil a fsid given to_come written tree tree'' clock clock'' sink sink'' end old (p ++ q)
+  answered-until tree tree' tree'' clock clock' clock'' sink sink' sink'' end old mid p q first then =
+      answered-join tree tree' tree'' clock clock' clock'' sink sink' sink'' (Wrote end) (GoesOn (no_reply a.is_built fsid) old mid p) (StopsAs (no_reply a.is_built fsid) end mid q) (StopsAs (no_reply a.is_built fsid) end old (p ++ q))
+      (wrote-behind end)
+      (stops-append (no_reply a.is_built fsid) end old mid p q) first then
+
+  -- nothing was answered, and the session ended so
+  ended-none : (tree : T) (clock : C) (sink : K) (end : SessionEnd) (old : Progress) (part : List ℕ) → StopsAs (no_reply a.is_built fsid) end old part [] → AnsweredUntil a fsid given to_come written tree tree clock clock sink sink end old part
+  ended-none tree clock sink end old part stops = record { turns = []; bytes = []; serves = serves-none tree clock sink; wrote = wrote-all end []; ends = stops }
+
+  -- ---- the record that is kept
+
+  -- no record is whole
+  pub whole-none : (tree : T) (clock : C) (sink : K) (now : Progress) → AnsweredAll a fsid given to_come written tree tree clock clock sink sink now now []
+  whole-none tree clock sink now = record { turns = []; bytes = []; serves = serves-none tree clock sink; wrote = refl; ends = record { went = went-nil now; answered = answered-nil (no_reply a.is_built fsid) } }
+
+  -- it has no reply
+  pub whole-no_reply : (tree tree' : T) (clock clock' : C) (sink : K) (now : Progress) (content more : List ℕ) (why : NoReply) → now ≡ Holding content → no_reply a.is_built fsid content ≡ Some why → tree' ≡ tree → clock' ≡ clock → AnsweredUntil a fsid given to_come written tree tree' clock clock' sink sink (end_without why) now more
+  whole-no_reply tree tree' clock clock' sink now content more why is none same still =
+      rw (same, still) (ended-none tree clock sink (end_without why) now more (rw is (stops-no_reply (no_reply a.is_built fsid) why content more none)))
+
+  -- its reply is written in part
+  pub whole-write_fault : (tree tree' : T) (clock clock' : C) (sink sink' : K) (now : Progress) (content more out : List ℕ) → now ≡ Holding content → TakesTurn a fsid given to_come tree tree' clock clock' content out → GainsFront (written sink) (written sink') out → AnsweredUntil a fsid given to_come written tree tree' clock clock' sink sink' WriteFault now more
+  whole-write_fault tree tree' clock clock' sink sink' now content more out is taken front = record {
+    turns = taken.turn ∷ [];
+    bytes = front.bytes;
+    serves = serves-one tree tree' clock clock' sink sink' content out front.bytes taken front.gained;
+    wrote = subst (Wrote WriteFault front.bytes) (taken.reply_is ∙ sym (append-nil _)) front.front;
+    ends = rw (is, taken.content_is) (stops-writing (no_reply a.is_built fsid) content more taken.answered);
+  }
+
+  -- its reply is written
+  pub whole-one : (tree tree' : T) (clock clock' : C) (sink sink' : K) (now new : Progress) (content out : List ℕ) → now ≡ Holding content → TakesTurn a fsid given to_come tree tree' clock clock' content out → Gains (written sink) (written sink') out
+      → ((text : List ℕ) (before : List (List ℕ)) → HasRead text before now → HasRead text (before ++ kept_by now) new) → AnsweredAll a fsid given to_come written tree tree' clock clock' sink sink' now new []
+  whole-one tree tree' clock clock' sink sink' now new content out is taken gained stream = record {
+    turns = taken.turn ∷ [];
+    bytes = out;
+    serves = serves-one tree tree' clock clock' sink sink' content out out taken gained;
+    wrote = taken.reply_is ∙ sym (append-nil _);
+    ends = rw taken.content_is (record { went = dropped-went now new content is stream; answered = answered-one (no_reply a.is_built fsid) content taken.answered });
+  }
+
 -- ---- a piece
 
 -- what is fed makes the rest smaller
@@ -179,73 +206,62 @@ piece-smaller old new rest n empty reading is not within f =
     let some = fed-some old new rest n reading bytes f in
     omega (arith, length-take (length rest - n) (drop n rest), length-drop n rest)
 
--- A piece, of which a front was answered.
-pub record PieceSoFar {C K : Type 0} (reply : List ℕ → Result (List ℕ) NoReply) (needs : List ℕ → Bool) (given : C → Option (List Moment)) (to_come : C → Option (ℕ → Moment)) (written : K → Option (List ℕ)) (faults : K → ℕ) (clock clock' : C) (sink sink' : K) (old now : Progress) (piece rest : List ℕ) : Type 0 where
-  pub front : List ℕ
-  pub whole : piece ≡ front ++ rest
-  pub answered : Answered needs given to_come written clock clock' sink sink' (GoesOn reply old now front)
-  pub reading : IsReading now
-  pub never_falls : faults sink ≤ faults sink'
+module _ {T C K : Type 0} (a : Answering T) (fsid : ℕ) (given : C → Option (List Moment)) (to_come : C → Option (ℕ → Moment)) (written : K → Option (List ℕ)) (faults : K → ℕ) where
+  -- A piece, of which a front was answered.
+  pub record PieceSoFar (tree tree' : T) (clock clock' : C) (sink sink' : K) (old now : Progress) (piece rest : List ℕ) : Type 0 where
+    pub front : List ℕ
+    pub whole : piece ≡ front ++ rest
+    pub answered : AnsweredAll a fsid given to_come written tree tree' clock clock' sink sink' old now front
+    pub reading : IsReading now
+    pub never_falls : faults sink ≤ faults sink'
 
-pub piece-begins : {C K : Type 0} (reply : List ℕ → Result (List ℕ) NoReply) (needs : List ℕ → Bool) (given : C → Option (List Moment)) (to_come : C → Option (ℕ → Moment)) (written : K → Option (List ℕ)) (faults : K → ℕ) (clock : C) (sink : K) (old : Progress) (piece : List ℕ) → IsReading old → PieceSoFar reply needs given to_come written faults clock clock sink sink old old piece piece
-piece-begins reply needs given to_come written faults clock sink old piece reading = record {
-  front = [];
-  whole = refl;
-  answered = whole-none reply needs given to_come written clock sink old;
-  reading = reading;
-  never_falls = omega arith;
-}
+  pub piece-begins : (tree : T) (clock : C) (sink : K) (old : Progress) (piece : List ℕ) → IsReading old → PieceSoFar tree tree clock clock sink sink old old piece piece
+  piece-begins tree clock sink old piece reading = record {
+    front = [];
+    whole = refl;
+    answered = whole-none a fsid given to_come written tree clock sink old;
+    reading = reading;
+    never_falls = omega arith;
+  }
 
--- some bytes were fed
-fed-goes_on : (reply : List ℕ → Result (List ℕ) NoReply) (now fed : Progress) (part : List ℕ) → ((text : List ℕ) (before : List (List ℕ)) → HasRead text before now → HasRead (text ++ part) before fed) → GoesOn reply now fed part [] []
-fed-goes_on reply now fed part stream = record { went = λ text before h. rw append-nil (stream text before h); replied = replied-nil reply }
+  -- what was answered before some bytes were fed, and those bytes
+  passed : (tree tree' : T) (clock clock' : C) (sink sink' : K) (old now fed : Progress) (front part : List ℕ) → AnsweredAll a fsid given to_come written tree tree' clock clock' sink sink' old now front
+      → ((text : List ℕ) (before : List (List ℕ)) → HasRead text before now → HasRead (text ++ part) before fed) → AnsweredAll a fsid given to_come written tree tree' clock clock' sink sink' old fed (front ++ part)
+  passed tree tree' clock clock' sink sink' old now fed front part answered stream =
+      answered-both a fsid given to_come written tree tree' tree' clock clock' clock' sink sink' sink' old now fed front part answered
+      (record { turns = []; bytes = []; serves = serves-none a fsid given to_come written tree' clock' sink'; wrote = refl; ends = fed-goes_on (no_reply a.is_built fsid) now fed part stream })
 
--- what was answered before some bytes were fed, and those bytes
-passed : {C K : Type 0} (reply : List ℕ → Result (List ℕ) NoReply) (needs : List ℕ → Bool) (given : C → Option (List Moment)) (to_come : C → Option (ℕ → Moment)) (written : K → Option (List ℕ)) (clock clock' : C) (sink sink' : K) (old now fed : Progress) (front part : List ℕ) → Answered needs given to_come written clock clock' sink sink' (GoesOn reply old now front)
-    → ((text : List ℕ) (before : List (List ℕ)) → HasRead text before now → HasRead (text ++ part) before fed) → Answered needs given to_come written clock clock' sink sink' (GoesOn reply old fed (front ++ part))
-passed reply needs given to_come written clock clock' sink sink' old now fed front part answered stream =
-    answered-append needs given to_come written clock clock' clock' sink sink' sink' (GoesOn reply old now front) (GoesOn reply now fed part) (GoesOn reply old fed (front ++ part))
-    (goes_on-append reply old now fed front part)
-    answered
-    (answered-none needs given to_come written clock' clock' sink' (GoesOn reply now fed part) (gave_moments-nil given to_come clock') (fed-goes_on reply now fed part stream))
+  pub piece-goes_on : (tree tree' tree'' : T) (clock clock' clock'' : C) (sink sink' sink'' : K) (old now fed new : Progress) (piece rest : List ℕ) (n : ℕ) → IsReading old → PieceSoFar tree tree' clock clock' sink sink' old now piece rest
+      → ((text : List ℕ) (before : List (List ℕ)) → HasRead text before now → HasRead (text ++ take n rest) before fed) → AnsweredAll a fsid given to_come written tree' tree'' clock' clock'' sink' sink'' fed new [] → IsUnfinished new → faults sink' ≤ faults sink'' → PieceSoFar tree tree'' clock clock'' sink sink'' old new piece (take (length rest - n) (drop n rest))
+  piece-goes_on tree tree' tree'' clock clock' clock'' sink sink' sink'' old now fed new piece rest n reading so_far stream next unfinished le =
+      let before = passed tree tree' clock clock' sink sink' old now fed so_far.front (take n rest) so_far.answered stream in
+      let all = answered-both a fsid given to_come written tree tree' tree'' clock clock' clock'' sink sink' sink'' old fed new (so_far.front ++ take n rest) [] before next in
+      rw take_rest (record {
+        front = (so_far.front ++ take n rest) ++ [];
+        whole = so_far.whole ∙ (ap (λ (xs : List ℕ). so_far.front ++ xs) (sym (take-append-drop n rest)) ∙ (sym (append_assoc so_far.front (take n rest) (drop n rest)) ∙ ap (λ (xs : List ℕ). xs ++ drop n rest) (sym (append-nil (so_far.front ++ take n rest)))));
+        answered = all;
+        reading = reading-on (no_reply a.is_built fsid) old new ((so_far.front ++ take n rest) ++ []) (contents all.turns) reading all.ends unfinished;
+        never_falls = omega (arith, so_far.never_falls);
+      })
 
-reading-on : (reply : List ℕ → Result (List ℕ) NoReply) (old new : Progress) (part : List ℕ) (records : List (List ℕ)) (bytes : List ℕ) → IsReading old → GoesOn reply old new part records bytes → IsUnfinished new → IsReading new
-reading-on reply old new part records bytes h on unfinished = record { text = h.text ++ part; dropped = h.dropped ++ records; read = on.went h.text h.dropped h.read; unfinished = unfinished }
+  -- the answering of a record stopped, with the rest of the piece behind it
+  pub piece-stops : (tree tree' tree'' : T) (clock clock' clock'' : C) (sink sink' sink'' : K) (old now fed : Progress) (piece rest : List ℕ) (n : ℕ) (end : SessionEnd) → PieceSoFar tree tree' clock clock' sink sink' old now piece rest
+      → ((text : List ℕ) (before : List (List ℕ)) → HasRead text before now → HasRead (text ++ take n rest) before fed) → AnsweredUntil a fsid given to_come written tree' tree'' clock' clock'' sink' sink'' end fed (drop n rest) → AnsweredUntil a fsid given to_come written tree tree'' clock clock'' sink sink'' end old piece
+  piece-stops tree tree' tree'' clock clock' clock'' sink sink' sink'' old now fed piece rest n end so_far stream next =
+      let before = passed tree tree' clock clock' sink sink' old now fed so_far.front (take n rest) so_far.answered stream in
+      let all = answered-until a fsid given to_come written tree tree' tree'' clock clock' clock'' sink sink' sink'' end old fed (so_far.front ++ take n rest) (drop n rest) before next in
+      let whole : (so_far.front ++ take n rest) ++ drop n rest ≡ piece = append_assoc so_far.front (take n rest) (drop n rest) ∙ (ap (λ (xs : List ℕ). so_far.front ++ xs) (take-append-drop n rest) ∙ sym so_far.whole) in
+      subst (λ (xs : List ℕ). AnsweredUntil a fsid given to_come written tree tree'' clock clock'' sink sink'' end old xs) whole all
 
-pub piece-goes_on : {C K : Type 0} (reply : List ℕ → Result (List ℕ) NoReply) (needs : List ℕ → Bool) (given : C → Option (List Moment)) (to_come : C → Option (ℕ → Moment)) (written : K → Option (List ℕ)) (faults : K → ℕ) (clock clock' clock'' : C) (sink sink' sink'' : K) (old now fed new : Progress) (piece rest : List ℕ) (n : ℕ) → IsReading old → PieceSoFar reply needs given to_come written faults clock clock' sink sink' old now piece rest
-    → ((text : List ℕ) (before : List (List ℕ)) → HasRead text before now → HasRead (text ++ take n rest) before fed) → Answered needs given to_come written clock' clock'' sink' sink'' (GoesOn reply fed new []) → IsUnfinished new → faults sink' ≤ faults sink'' → PieceSoFar reply needs given to_come written faults clock clock'' sink sink'' old new piece (take (length rest - n) (drop n rest))
-piece-goes_on reply needs given to_come written faults clock clock' clock'' sink sink' sink'' old now fed new piece rest n reading so_far stream next unfinished le =
-    let before = passed reply needs given to_come written clock clock' sink sink' old now fed so_far.front (take n rest) so_far.answered stream in
-    let all = answered-append needs given to_come written clock clock' clock'' sink sink' sink'' (GoesOn reply old fed (so_far.front ++ take n rest)) (GoesOn reply fed new []) (GoesOn reply old new ((so_far.front ++ take n rest) ++ []))
-    (goes_on-append reply old fed new (so_far.front ++ take n rest) []) before next in
-    rw take_rest (record {
-      front = (so_far.front ++ take n rest) ++ [];
-      whole = so_far.whole ∙ (ap (λ (xs : List ℕ). so_far.front ++ xs) (sym (take-append-drop n rest)) ∙ (sym (append_assoc so_far.front (take n rest) (drop n rest)) ∙ ap (λ (xs : List ℕ). xs ++ drop n rest) (sym (append-nil (so_far.front ++ take n rest)))));
-      answered = all;
-      reading = reading-on reply old new ((so_far.front ++ take n rest) ++ []) all.records all.bytes reading all.ends unfinished;
-      never_falls = omega (arith, so_far.never_falls);
-    })
+  -- record marking refused the piece
+  pub piece-too_long : (tree tree' : T) (clock clock' : C) (sink sink' : K) (old now new : Progress) (piece rest : List ℕ) (fault : RecordFault) → PieceSoFar tree tree' clock clock' sink sink' old now piece rest → Feeds now rest (Err fault) new
+      → ((text : List ℕ) (before : List (List ℕ)) → HasRead text before now → HasRead (text ++ rest) before new) → AnsweredUntil a fsid given to_come written tree tree' clock clock' sink sink' TooLong old piece
+  piece-too_long tree tree' clock clock' sink sink' old now new piece rest fault so_far f stream =
+      let refused = refused-is now new rest fault f in
+      let stop = ended-none a fsid given to_come written tree' clock' sink' TooLong now rest (stops-too_long (no_reply a.is_built fsid) now new rest refused.0 refused.1 stream) in
+      let all = answered-until a fsid given to_come written tree tree' tree' clock clock' clock' sink sink' sink' TooLong old now so_far.front rest so_far.answered stop in
+      subst (λ (xs : List ℕ). AnsweredUntil a fsid given to_come written tree tree' clock clock' sink sink' TooLong old xs) (sym so_far.whole) all
 
--- the answering of a record stopped, with the rest of the piece behind it
-pub piece-stops : {C K : Type 0} (reply : List ℕ → Result (List ℕ) NoReply) (needs : List ℕ → Bool) (given : C → Option (List Moment)) (to_come : C → Option (ℕ → Moment)) (written : K → Option (List ℕ)) (faults : K → ℕ) (clock clock' clock'' : C) (sink sink' sink'' : K) (old now fed : Progress) (piece rest : List ℕ) (n : ℕ) (end : SessionEnd) → PieceSoFar reply needs given to_come written faults clock clock' sink sink' old now piece rest
-    → ((text : List ℕ) (before : List (List ℕ)) → HasRead text before now → HasRead (text ++ take n rest) before fed) → Answered needs given to_come written clock' clock'' sink' sink'' (StopsAs reply end fed (drop n rest)) → Answered needs given to_come written clock clock'' sink sink'' (StopsAs reply end old piece)
-piece-stops reply needs given to_come written faults clock clock' clock'' sink sink' sink'' old now fed piece rest n end so_far stream next =
-    let before = passed reply needs given to_come written clock clock' sink sink' old now fed so_far.front (take n rest) so_far.answered stream in
-    let all = answered-append needs given to_come written clock clock' clock'' sink sink' sink'' (GoesOn reply old fed (so_far.front ++ take n rest)) (StopsAs reply end fed (drop n rest)) (StopsAs reply end old ((so_far.front ++ take n rest) ++ drop n rest))
-    (stops-append reply end old fed (so_far.front ++ take n rest) (drop n rest)) before next in
-    let whole : (so_far.front ++ take n rest) ++ drop n rest ≡ piece = append_assoc so_far.front (take n rest) (drop n rest) ∙ (ap (λ (xs : List ℕ). so_far.front ++ xs) (take-append-drop n rest) ∙ sym so_far.whole) in
-    subst (λ (xs : List ℕ). Answered needs given to_come written clock clock'' sink sink'' (StopsAs reply end old xs)) whole all
-
--- record marking refused the piece
-pub piece-too_long : {C K : Type 0} (reply : List ℕ → Result (List ℕ) NoReply) (needs : List ℕ → Bool) (given : C → Option (List Moment)) (to_come : C → Option (ℕ → Moment)) (written : K → Option (List ℕ)) (faults : K → ℕ) (clock clock' : C) (sink sink' : K) (old now new : Progress) (piece rest : List ℕ) (fault : RecordFault) → PieceSoFar reply needs given to_come written faults clock clock' sink sink' old now piece rest → Feeds now rest (Err fault) new
-    → ((text : List ℕ) (before : List (List ℕ)) → HasRead text before now → HasRead (text ++ rest) before new) → Answered needs given to_come written clock clock' sink sink' (StopsAs reply TooLong old piece)
-piece-too_long reply needs given to_come written faults clock clock' sink sink' old now new piece rest fault so_far f stream =
-    let refused = refused-is now new rest fault f in
-    let stop = answered-none needs given to_come written clock' clock' sink' (StopsAs reply TooLong now rest) (gave_moments-nil given to_come clock') (stops-too_long reply now new rest refused.0 refused.1 stream) in
-    let all = answered-append needs given to_come written clock clock' clock' sink sink' sink' (GoesOn reply old now so_far.front) (StopsAs reply TooLong now rest) (StopsAs reply TooLong old (so_far.front ++ rest))
-    (stops-append reply TooLong old now so_far.front rest) so_far.answered stop in
-    subst (λ (xs : List ℕ). Answered needs given to_come written clock clock' sink sink' (StopsAs reply TooLong old xs)) (sym so_far.whole) all
-
-pub piece-ends : {C K : Type 0} (reply : List ℕ → Result (List ℕ) NoReply) (needs : List ℕ → Bool) (given : C → Option (List Moment)) (to_come : C → Option (ℕ → Moment)) (written : K → Option (List ℕ)) (faults : K → ℕ) (clock clock' : C) (sink sink' : K) (old now : Progress) (piece rest : List ℕ) → PieceSoFar reply needs given to_come written faults clock clock' sink sink' old now piece rest → length rest ≡ 0 → Answered needs given to_come written clock clock' sink sink' (GoesOn reply old now piece)
-piece-ends reply needs given to_come written faults clock clock' sink sink' old now piece [] so_far empty = subst (λ (xs : List ℕ). Answered needs given to_come written clock clock' sink sink' (GoesOn reply old now xs)) (sym (append-nil so_far.front) ∙ sym so_far.whole) so_far.answered
-piece-ends reply needs given to_come written faults clock clock' sink sink' old now piece (x ∷ rest) so_far empty = absurd (omega (arith, empty))
+  pub piece-ends : (tree tree' : T) (clock clock' : C) (sink sink' : K) (old now : Progress) (piece rest : List ℕ) → PieceSoFar tree tree' clock clock' sink sink' old now piece rest → length rest ≡ 0 → AnsweredAll a fsid given to_come written tree tree' clock clock' sink sink' old now piece
+  piece-ends tree tree' clock clock' sink sink' old now piece [] so_far empty = subst (λ (xs : List ℕ). AnsweredAll a fsid given to_come written tree tree' clock clock' sink sink' old now xs) (sym (append-nil so_far.front) ∙ sym so_far.whole) so_far.answered
+  piece-ends tree tree' clock clock' sink sink' old now piece (x ∷ rest) so_far empty = absurd (omega (arith, empty))

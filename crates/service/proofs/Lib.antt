@@ -1,8 +1,12 @@
 pub mod PutSteps
-pub mod TranscriptSteps
+pub mod CourseSteps
+pub mod TurnSteps
+pub mod TakenSteps
+pub mod CallerWords
 pub mod AnswerSteps
 pub mod SessionSteps
-pub mod ReplySizes
+pub mod FirstSpelled
+pub mod FirstAnswers
 pub mod OneWord
 pub mod Readings
 pub mod RunSteps

@@ -1,5 +1,5 @@
 -- A run ends by the bytes that it read, but for what is apart from them.
-use Rattle.std.proofs.Common.{◌≡◌, ℕ, List, [], ◌∷◌, Result, Ok, Err, Option, String, refl, sym, ◌∙◌, ap, ◌⊎◌, inl, inr}
+use Rattle.std.proofs.Common.{◌≡◌, ℕ, List, Option, String, refl, sym, ◌∙◌, ap, ◌⊎◌, inl, inr}
 use Rattle.std.specs.declared.alloc.Global.{Global}
 use Rattle.nfs3_types.specs.declared.moment.Moment.{Moment}
 use Rattle.outside.specs.Count.{Rose}
@@ -7,25 +7,12 @@ use Rattle.service.specs.declared.session.SessionEnd.{SessionEnd}
 use Rattle.service.specs.declared.session.SessionEnd.TheVariants.{Done, ReadFault, WriteFault, CutRecord, TooLong, BadRecord, ManyReads, NotBuilt}
 use Rattle.service.specs.declared.command.RunEnd.{RunEnd}
 use Rattle.service.specs.declared.command.RunEnd.TheVariants.{Usage, NoMemory, Session}
-use Rattle.rpc_records.specs.Marking.{marking}
-use Rattle.service.specs.declared.no_reply.NoReply.{NoReply}
-use Rattle.service.specs.declared.calls.BuiltCall.{BuiltCall}
-use Rattle.service.specs.Transcript.{ending, begun_by, transcript_of, end_behind}
+use Rattle.service.specs.Turns.{contents, no_reply}
+use Rattle.service.specs.Course.{course}
 use Rattle.service.specs.Session.{IsByText}
-use Rattle.service.specs.Replies.{call_of, reply_of, reply_at}
+use Rattle.service.specs.FirstTree.{fsid, answering}
 use Rattle.service.specs.Run.{IsFeed, IsFed, Outcome, IsApart, EndsByText, status_of}
-use Rattle.service.proofs.Readings.{by_text}
-
--- the end does not hang on the first moment
-same-end : (first other : Moment) (records : List (List ℕ)) (end : SessionEnd) → (transcript_of (reply_at first) records (ending end)).end ≡ (transcript_of (reply_at other) records (ending end)).end
-same-end first other [] end = refl
-same-end first other (r ∷ records) end =
-    let mine = transcript_of (reply_at first) records (ending end) in
-    let others = transcript_of (reply_at other) records (ending end) in
-    elim (call_of r) as (λ (call : Result BuiltCall NoReply). (begun_by r (reply_of first call) mine).end ≡ (begun_by r (reply_of other call) others).end) [
-      | Ok call ↦ same-end first other records end
-      | Err fault ↦ refl
-    ]
+use Rattle.service.proofs.Readings.{follows-by_text}
 
 -- the text alone ended the session
 ends-by_text : {S C K : Type 0} (taken left : S → Option (List ℕ)) (read_faults : S → ℕ) (given : C → Option (List Moment)) (to_come : C → Option (ℕ → Moment)) (written : K → Option (List ℕ)) (write_faults : K → ℕ) (words : List (String Global)) (source source' : S) (clock clock' : C) (sink sink' : K) (end : SessionEnd) (status : ℕ) → IsByText end → status ≡ status_of (Session end) → IsFed taken left read_faults given to_come written write_faults words source source' clock clock' sink sink' end → EndsByText taken left source source' status
@@ -34,9 +21,7 @@ ends-by_text taken left read_faults given to_come written write_faults words sou
     record {
       text = s.text;
       gave = s.gave;
-      status_is = λ first. is ∙ ap (λ (e : SessionEnd). status_of (Session e)) (sym (
-          same-end first fed.feeds.first (marking s.text).records (end_behind (marking s.text).refusal (marking s.text).rest)
-          ∙ by_text (reply_at fed.feeds.first) s.text end s.records s.bytes s.ends by));
+      status_is = is ∙ ap (λ (e : SessionEnd). status_of (Session e)) (sym (follows-by_text end (course (no_reply answering.is_built fsid) s.text) (contents s.turns) s.ends.follows by));
     }
 
 pub apart-or_by_text : {S C K : Type 0} (taken left : S → Option (List ℕ)) (read_faults : S → ℕ) (given : C → Option (List Moment)) (to_come : C → Option (ℕ → Moment)) (written : K → Option (List ℕ)) (write_faults : K → ℕ) (words : List (String Global)) (source source' : S) (clock clock' : C) (sink sink' : K) (end : RunEnd) (status : ℕ) → status ≡ status_of end → Outcome taken left read_faults given to_come written write_faults words source source' clock clock' sink sink' end → IsApart status ⊎ EndsByText taken left source source' status

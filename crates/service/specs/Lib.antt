@@ -1,8 +1,7 @@
-pub mod Transcript
+pub mod Turns
+pub mod Course
 pub mod Session
 pub mod SessionRuns
 pub mod Steps
-pub mod Attributes
-pub mod Built
-pub mod Replies
+pub mod FirstTree
 pub mod Run

@@ -10,10 +10,12 @@ use Rattle.service.specs.declared.session.SessionEnd.{SessionEnd}
 use Rattle.service.specs.declared.session.SessionEnd.TheVariants.{Done, ReadFault, WriteFault, CutRecord, TooLong, BadRecord, ManyReads, NotBuilt}
 use Rattle.service.specs.declared.command.RunEnd.{RunEnd}
 use Rattle.service.specs.declared.command.RunEnd.TheVariants.{Usage, NoMemory, Session}
-use Rattle.service.specs.Transcript.{transcript}
+use Rattle.fs_rules.specs.Tree.{Tree}
+use Rattle.service.specs.Turns.{no_reply}
+use Rattle.service.specs.Course.{course}
 use Rattle.service.specs.Session.{IsFront}
 use Rattle.service.specs.SessionRuns.{SessionRuns}
-use Rattle.service.specs.Replies.{reply_at, needs_moment}
+use Rattle.service.specs.FirstTree.{fsid, answering, made_at}
 
 -- the words are the one word `feed`
 abbrev pub IsFeed : List (String Global) → Type 0
@@ -61,12 +63,13 @@ pub record IsUntouched {S C K : Type 0} (old_source new_source : S) (old_clock n
   pub clock : new_clock ≡ old_clock
   pub sink : new_sink ≡ old_sink
 
--- The clock gave the first moment, and then a session ran on the tree that was made at it.
+-- The clock gave the first moment, and then a session ran on the tree that was made at it, and led to another.
 pub record Feeds {S C K : Type 0} (taken left : S → Option (List ℕ)) (read_faults : S → ℕ) (given : C → Option (List Moment)) (to_come : C → Option (ℕ → Moment)) (written : K → Option (List ℕ)) (write_faults : K → ℕ) (old_source new_source : S) (old_clock new_clock : C) (old_sink new_sink : K) (end : SessionEnd) : Type 0 where
   pub first : Moment
   pub begun : C
   pub gave : GaveMoments given to_come old_clock begun (first ∷ [])
-  pub session : SessionRuns (reply_at first) needs_moment taken left read_faults given to_come written write_faults old_source new_source begun new_clock old_sink new_sink end
+  pub tree : Tree
+  pub session : SessionRuns answering fsid taken left read_faults given to_come written write_faults (made_at first) tree old_source new_source begun new_clock old_sink new_sink end
 
 -- a word list that is no command, and nothing else done
 pub record IsRefused {S C K : Type 0} (words : List (String Global)) (old_source new_source : S) (old_clock new_clock : C) (old_sink new_sink : K) : Type 0 where
@@ -99,9 +102,8 @@ pub record Runs {S C K E : Type 0} (taken left : S → Option (List ℕ)) (read_
 abbrev pub IsApart : ℕ → Type 0
 IsApart status = (status ≡ 1) ⊎ (status ≡ 2) ⊎ (status ≡ 3) ⊎ (status ≡ 7) ⊎ (status ≡ 8)
 
--- The status is that of the transcript of the text that the source gave. The first moment does not matter
--- to it.
+-- The status is that of the course of the text that the source gave, whatever the tree and the moments are.
 pub record EndsByText {S : Type 0} (taken left : S → Option (List ℕ)) (old_source new_source : S) (status : ℕ) : Type 0 where
   pub text : List ℕ
   pub gave : GaveBytes taken left old_source new_source text
-  pub status_is : (first : Moment) → status ≡ status_of (Session (transcript (reply_at first) text).end)
+  pub status_is : status ≡ status_of (Session (course (no_reply answering.is_built fsid) text).end)

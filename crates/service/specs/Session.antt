@@ -1,19 +1,19 @@
--- What a session does: which records it answers, what it takes of the clock and writes for them, and how it
--- ends.
-use Rattle.std.specs.Prelude.{◌≡◌, ℕ, ◌^◌, ◌<◌, ◌≤◌, Bool, List, ◌++◌, length, count_by, if◌then◌else◌, Option, Result, ◌⊎◌}
+-- What a session does: which records it answers, what it takes of the clock and writes for them, which tree
+-- they leave, and how it ends.
+use Rattle.std.specs.Prelude.{◌≡◌, ℕ, ◌^◌, ◌<◌, ◌≤◌, List, ◌++◌, Option, ◌⊎◌}
 use Rattle.nfs3_types.specs.declared.moment.Moment.{Moment}
 use Rattle.outside.specs.Count.{Rose}
 use Rattle.outside.specs.Told.{Gains}
 use Rattle.outside.specs.Clock.{GaveMoments}
-use Rattle.service.specs.declared.no_reply.NoReply.{NoReply}
 use Rattle.service.specs.declared.session.SessionEnd.{SessionEnd}
 use Rattle.service.specs.declared.session.SessionEnd.TheVariants.{Done, ReadFault, WriteFault, CutRecord, ManyReads}
-use Rattle.service.specs.Transcript.{Transcript, transcript, replies}
+use Rattle.service.specs.Turns.{Answering, Turn, contents, moments_of, transcript, tree_behind, no_reply}
+use Rattle.service.specs.Course.{Course, course}
 
--- the bytes are the first of those
-pub record IsFront (bytes all : List ℕ) : Type 0 where
-  pub rest : List ℕ
-  pub whole : all ≡ bytes ++ rest
+-- the items are the first of those
+pub record IsFront {X : Type 0} (items all : List X) : Type 0 where
+  pub rest : List X
+  pub whole : all ≡ items ++ rest
 
 -- what is told grows at its end by a front of the part
 pub record GainsFront (before now : Option (List ℕ)) (part : List ℕ) : Type 0 where
@@ -28,42 +28,47 @@ pub record PutSoFar {K : Type 0} (written : K → Option (List ℕ)) (faults : K
   pub gained : Gains (written old) (written now) bytes
   pub never_falls : faults old ≤ faults now
 
--- the clock gave one moment where it is to, else none
-pub record GaveIf {C : Type 0} (given : C → Option (List Moment)) (to_come : C → Option (ℕ → Moment)) (old now : C) (needs : Bool) : Type 0 where
-  pub moments : List Moment
-  pub count : length moments ≡ (if needs then 1 else 0)
-  pub gave : GaveMoments given to_come old now moments
-
--- From the old clock and sink to the new ones these records were served: the clock gave a moment for each
--- that needs one, and the sink gained these bytes.
-pub record Serves {C K : Type 0} (needs_moment : List ℕ → Bool) (given : C → Option (List Moment)) (to_come : C → Option (ℕ → Moment)) (written : K → Option (List ℕ)) (old_clock new_clock : C) (old_sink new_sink : K) (records : List (List ℕ)) (bytes : List ℕ) : Type 0 where
-  pub moments : List Moment
-  pub count : length moments ≡ count_by needs_moment records
-  pub gave : GaveMoments given to_come old_clock new_clock moments
+-- From the old tree, clock and sink to the new ones these turns were served: they led to this tree, the clock
+-- gave exactly the moments that they take, and the sink gained these bytes.
+pub record Serves {T C K : Type 0} (a : Answering T) (fsid : ℕ) (given : C → Option (List Moment)) (to_come : C → Option (ℕ → Moment)) (written : K → Option (List ℕ)) (old_tree new_tree : T) (old_clock new_clock : C) (old_sink new_sink : K) (turns : List Turn) (bytes : List ℕ) : Type 0 where
+  pub tree : new_tree ≡ tree_behind a fsid old_tree turns
+  pub gave : GaveMoments given to_come old_clock new_clock (moments_of fsid turns)
   pub gained : Gains (written old_sink) (written new_sink) bytes
 
--- the transcript is these records, their replies and this end
-abbrev pub ConsistsOf : Transcript → List (List ℕ) → List ℕ → SessionEnd → Type 0
-ConsistsOf t records bytes end = t ≡ record { answered = records; bytes = bytes; end = end }
+-- ---- what the end says of the records that were served, by the course of the text
 
--- every whole record was answered, and the transcript ends with the text alone
-pub record AnswersAll (t : Transcript) (records : List (List ℕ)) (bytes : List ℕ) : Type 0 where
-  pub all : ConsistsOf t records bytes t.end
-  pub open_end : (t.end ≡ Done) ⊎ (t.end ≡ CutRecord)
+-- they are all that the course has, and it ends so
+abbrev pub ConsistsOf : Course → List (List ℕ) → SessionEnd → Type 0
+ConsistsOf c records end = c ≡ record { answered = records; end = end }
 
--- the first records of the transcript were served, and a front of their replies was written
-pub record BreaksOff (reply : List ℕ → Result (List ℕ) NoReply) (t : Transcript) (records : List (List ℕ)) (bytes : List ℕ) : Type 0 where
+-- they are all that the course has, and it ends with the text alone
+pub record AnswersAll (c : Course) (records : List (List ℕ)) : Type 0 where
+  pub all : ConsistsOf c records c.end
+  pub open_end : (c.end ≡ Done) ⊎ (c.end ≡ CutRecord)
+
+-- they are the first of the course
+pub record BreaksOff (c : Course) (records : List (List ℕ)) : Type 0 where
   pub others : List (List ℕ)
-  pub first : t.answered ≡ records ++ others
-  pub front : IsFront bytes (replies reply records)
+  pub first : c.answered ≡ records ++ others
 
--- How a session ended, by the text that it took, the records that it served and the bytes that it wrote. An
--- end that is no fault, and not for the number of takes, is the transcript's.
-abbrev pub EndsAs : (List ℕ → Result (List ℕ) NoReply) → SessionEnd → List ℕ → List (List ℕ) → List ℕ → Type 0
-EndsAs reply ReadFault text records bytes = AnswersAll (transcript reply text) records bytes
-EndsAs reply ManyReads text records bytes = AnswersAll (transcript reply text) records bytes
-EndsAs reply WriteFault text records bytes = BreaksOff reply (transcript reply text) records bytes
-EndsAs reply end text records bytes = ConsistsOf (transcript reply text) records bytes end
+-- An end that is no fault, and not for the number of takes, is the course's.
+abbrev pub Follows : SessionEnd → Course → List (List ℕ) → Type 0
+Follows ReadFault c records = AnswersAll c records
+Follows ManyReads c records = AnswersAll c records
+Follows WriteFault c records = BreaksOff c records
+Follows end c records = ConsistsOf c records end
+
+-- ---- what it says of the bytes that were written: all of these, or a front of them where writing failed
+
+abbrev pub Wrote : SessionEnd → List ℕ → List ℕ → Type 0
+Wrote WriteFault bytes all = IsFront bytes all
+Wrote end bytes all = bytes ≡ all
+
+-- How a session ended, by the text that it took, the turns that it served from this tree on, and the bytes
+-- that it wrote.
+pub record EndsAs {T : Type 0} (a : Answering T) (fsid : ℕ) (tree : T) (end : SessionEnd) (text : List ℕ) (turns : List Turn) (bytes : List ℕ) : Type 0 where
+  pub follows : Follows end (course (no_reply a.is_built fsid) text) (contents turns)
+  pub wrote : Wrote end bytes (transcript a fsid tree turns)
 
 -- the ends that a text alone may bring
 abbrev pub IsByText : SessionEnd → Type 0

@@ -4,11 +4,12 @@ ghost use Rattle.std.specs.Prelude.{◌≡◌, ◌↔◌, ◌⊎◌, IfOk, OnErr
 ghost use Rattle.outside.specs.Count.{Rose};
 ghost use Rattle.service.specs.Run.{EndsByText, IsApart, IsFeed, Feeds, IsUntouched, Outcome, Runs, Tells, line_of, status_of};
 
-use crate::answering::LONGEST_REPLY;
-use crate::first_tree::FirstTree;
+use crate::first_tree::{FSID, FirstTree};
+use crate::one_call::LEAST_ROOM;
 use crate::put_all::put_all;
 use crate::session::{ROOM, SessionEnd, session};
 use crate::words::is_feed;
+use mount3::Exports;
 use outside::{Clock, NoMemory, Sink, Source, Weather};
 use rpc_records::Records;
 use std::alloc::Global;
@@ -70,7 +71,7 @@ fn tell<E: Sink>(errors: &mut E, end: RunEnd)
 }
 
 /// Answers the records of the input on the tree as it begins, which is made at the clock's next
-/// moment. What it needs of memory it takes before it reads the clock or the input.
+/// moment. What it needs of memory before the first reply it takes before it reads the clock or the input.
 fn feed<S: Source, C: Clock, K: Sink>(
     alloc: Global,
     input: &mut S,
@@ -82,11 +83,13 @@ fn feed<S: Source, C: Clock, K: Sink>(
     ensures err { OnErr result (IsUntouched input.old input.new clock.old clock.new output.old output.new) }
 {
     let mut room = vec![in alloc; 0u8; ROOM]?;
-    let mut reply = Vec::with_capacity(alloc, LONGEST_REPLY)?;
+    let mut reply = Vec::with_capacity(alloc, LEAST_ROOM)?;
     let mut records = Records::new(alloc)?;
-    let tree = FirstTree { first: clock.now() };
+    let mut tree = FirstTree { first: clock.now() };
     Ok(session(
-        &tree,
+        alloc,
+        &Exports { fsid: FSID },
+        &mut tree,
         &mut room,
         &mut records,
         &mut reply,

@@ -5,10 +5,14 @@ ghost use Rattle.rpc_records.specs.Progress.{fresh};
 ghost use Rattle.service.specs.SessionRuns.{SessionRuns};
 ghost use Rattle.service.specs.Steps.{end_of};
 
-use crate::answering::{Answers, LONGEST_REPLY, Stop, answer_piece};
+use crate::answering::{Stop, answer_piece};
 use crate::no_reply::NoReply;
+use crate::one_call::LEAST_ROOM;
+use crate::tree::Tree;
+use mount3::Exports;
 use outside::{Clock, Sink, Source};
 use rpc_records::Records;
+use std::alloc::Global;
 
 /// The most bytes of one take.
 pub const ROOM: usize = 4096;
@@ -50,9 +54,11 @@ fn end_of(stop: Stop) -> SessionEnd
 }
 
 /// Answers the records of the input in order, each reply written whole before the next record is
-/// looked at. It takes no memory.
-pub fn session<A: Answers, S: Source, C: Clock, K: Sink>(
-    tree: &A,
+/// looked at. Where memory lacks for a reply, the one that says so takes its place.
+pub fn session<T: Tree, S: Source, C: Clock, K: Sink>(
+    alloc: Global,
+    exports: &Exports,
+    tree: &mut T,
     room: &mut [u8],
     records: &mut Records,
     reply: &mut Vec<u8>,
@@ -63,9 +69,9 @@ pub fn session<A: Answers, S: Source, C: Clock, K: Sink>(
     requires some { 0 < length room.old }
     requires most { length room.old ≤ ROOM }
     requires records { records.old ≡ fresh }
-    requires reply { LONGEST_REPLY ≤ vec_capacity reply.old }
-    ensures { SessionRuns (A.reply tree.now) (A.needs_moment tree.now) S.taken S.left S.faults C.given C.to_come K.written K.faults
-        input.old input.new clock.old clock.new output.old output.new result }
+    requires reply { LEAST_ROOM ≤ vec_capacity reply.old }
+    ensures { SessionRuns T.answering exports.now.fsid S.taken S.left S.faults C.given C.to_come K.written K.faults
+        (T.plain tree.old) (T.plain tree.new) input.old input.new clock.old clock.new output.old output.new result }
 {
     for _turn in 0..MOST_TAKES {
         let Ok(n) = input.take(room) else {
@@ -77,7 +83,16 @@ pub fn session<A: Answers, S: Source, C: Clock, K: Sink>(
             }
             return SessionEnd::CutRecord;
         }
-        match answer_piece(tree, &room[..n], records, reply, clock, output) {
+        match answer_piece(
+            alloc,
+            exports,
+            tree,
+            &room[..n],
+            records,
+            reply,
+            clock,
+            output,
+        ) {
             Ok(()) => {}
             Err(stop) => return end_of(stop),
         }

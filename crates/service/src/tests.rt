@@ -1,6 +1,7 @@
 ghost use Rattle.std.specs.Prelude.{◌≤◌};
 
 use super::*;
+use crate::first_tree::FirstTree;
 use outside::{Calm, ListClock, MemSink, MemSource, Moment, Text};
 use std::alloc::Global;
 use std::process::Abort;
@@ -22,6 +23,23 @@ const VERIFIED_CALL: [u8; 44] = [
 const NO_CALL: [u8; 44] = [
     0x80, 0, 0, 0x28, 0, 0, 0, 1, 0, 0, 0, 1, 0, 0, 0, 2, 0, 1, 0x86, 0xa3, 0, 0, 0, 3, 0, 0, 0, 0,
     0, 0, 0, 0, 0, 0, 0, 0, 0, 0, 0, 0, 0, 0, 0, 0,
+];
+
+/// FSINFO of the root, xid 2.
+const FSINFO_CALL: [u8; 72] = [
+    0x80, 0, 0, 0x44, 0, 0, 0, 2, 0, 0, 0, 0, 0, 0, 0, 2, 0, 1, 0x86, 0xa3, 0, 0, 0, 3, 0, 0, 0,
+    19, 0, 0, 0, 0, 0, 0, 0, 0, 0, 0, 0, 0, 0, 0, 0, 0, 0, 0, 0, 0x18, 0, 0, 0, 1, 0, 0, 0, 0, 0,
+    0, 0, 0, 0, 0, 0, 0, 0, 0, 0, 0, 0, 0, 0, 1,
+];
+
+/// The denial of xid 1 for its verifier (AUTH_BADVERF).
+const BAD_VERIFIER: [u8; 24] = [
+    0x80, 0, 0, 0x14, 0, 0, 0, 1, 0, 0, 0, 1, 0, 0, 0, 1, 0, 0, 0, 1, 0, 0, 0, 3,
+];
+
+/// The reply that the arguments of xid 1 do not read (GARBAGE_ARGS).
+const GARBAGE: [u8; 28] = [
+    0x80, 0, 0, 0x18, 0, 0, 0, 1, 0, 0, 0, 1, 0, 0, 0, 0, 0, 0, 0, 0, 0, 0, 0, 0, 0, 0, 0, 4,
 ];
 
 const NULL_REPLY: [u8; 28] = [
@@ -127,7 +145,9 @@ fn records_are_answered_in_any_pieces(rt: HostRuntime) -> Result<(), Fail> {
     let root = GETATTR_CALL.as_slice();
     let parts = FIVE_FRAGMENTS.as_slice();
     let verified = VERIFIED_CALL.as_slice();
+    let denied = BAD_VERIFIER.as_slice();
     let no_call = NO_CALL.as_slice();
+    let info = FSINFO_CALL.as_slice();
     let done = NULL_REPLY.as_slice();
     let attributes = GETATTR_REPLY.as_slice();
     for (input, replies, status, line) in [
@@ -145,8 +165,9 @@ fn records_are_answered_in_any_pieces(rt: HostRuntime) -> Result<(), Fail> {
             CUT,
         ),
         ([&[0], &NULL_CALL[1..], none], [none, none, none], 4, CUT),
-        // a verifier that is not empty, and a message that is no call
-        ([null, verified, null], [done, none, none], 11, UNBUILT),
+        // a verifier that does not read, a call that is not built, and a message that is no call
+        ([null, verified, null], [done, denied, done], 0, ""),
+        ([root, info, root], [attributes, none, none], 11, UNBUILT),
         ([null, no_call, null], [done, none, none], 6, BAD),
     ] {
         for cut in [1, 4096] {
@@ -172,21 +193,28 @@ fn records_are_answered_in_any_pieces(rt: HostRuntime) -> Result<(), Fail> {
 #[test]
 fn records_are_refused_in_any_pieces(rt: HostRuntime) -> Result<(), Fail> {
     let alloc = rt.alloc();
+    let none: &[u8] = &[];
+    let garbage = GARBAGE.as_slice();
     // a head, so many bytes of the call, so many zeros, and a last head
-    for (head, bytes, zeros, last, status, line) in [
+    for (head, bytes, zeros, last, written, status, line) in [
         // 65 empty fragments, the last of them marked or not, and 64
-        ([0; 4], 0, 252, [0x80, 0, 0, 0], 5, LONG),
-        ([0; 4], 0, 252, [0; 4], 5, LONG),
-        ([0; 4], 0, 248, [0x80, 0, 0, 0], 6, BAD),
+        ([0; 4], 0, 252, [0x80, 0, 0, 0], none, 5, LONG),
+        ([0; 4], 0, 252, [0; 4], none, 5, LONG),
+        ([0; 4], 0, 248, [0x80, 0, 0, 0], none, 6, BAD),
         // 65,536 bytes and 65,537
-        ([0x80, 1, 0, 0], 40, 65_496, [0x80, 0, 0, 0], 11, UNBUILT),
-        ([0x80, 1, 0, 1], 40, 65_497, [0x80, 0, 0, 0], 5, LONG),
-        // 0 bytes, 23 and 24, before a head that is refused
-        ([0x80, 0, 0, 0], 0, 0, [0x80, 1, 0, 1], 6, BAD),
-        ([0x80, 0, 0, 23], 23, 0, [0x80, 1, 0, 1], 6, BAD),
-        ([0x80, 0, 0, 24], 24, 0, [0x80, 1, 0, 1], 11, UNBUILT),
-        // 23 bytes, before an input that ends inside a record
-        ([0x80, 0, 0, 23], 23, 0, [0x80, 0, 0, 1], 6, BAD),
+        (
+            [0x80, 1, 0, 0],
+            40,
+            65_496,
+            [0x80, 0, 0, 0],
+            garbage,
+            6,
+            BAD,
+        ),
+        ([0x80, 1, 0, 1], 40, 65_497, [0x80, 0, 0, 0], none, 5, LONG),
+        // 23 bytes, before a head that is refused, and before an input that ends inside a record
+        ([0x80, 0, 0, 23], 23, 0, [0x80, 1, 0, 1], none, 6, BAD),
+        ([0x80, 0, 0, 23], 23, 0, [0x80, 0, 0, 1], none, 6, BAD),
     ] {
         for cut in [1, 4096] {
             let parts = [head.as_slice(), &NULL_CALL[4..4 + bytes]];
@@ -200,7 +228,7 @@ fn records_are_refused_in_any_pieces(rt: HostRuntime) -> Result<(), Fail> {
                 [0, 0],
                 [0],
                 status,
-                &[],
+                written,
                 line,
             )?;
         }
@@ -230,5 +258,6 @@ fn faults_and_words_have_their_statuses(rt: HostRuntime) -> Result<(), Fail> {
             &rt, alloc, words, null, 4096, source, sink, status, written, line,
         )?;
     }
+    one_reading::<FirstTree>();
     Ok(())
 }

@@ -1,0 +1,131 @@
+//! Answering one record.
+
+ghost use Rattle.std.specs.Prelude.{◌≡◌, ◌≤◌, ◌%◌, [], length, IsTrue, Some, IfOk, OnOk, OnErr, IfErr, vec_capacity};
+ghost use Rattle.nfs3_res.specs.Spelled.{IsSpelled};
+ghost use Rattle.rpc_msg.specs.Auth.{words_in};
+ghost use Rattle.rpc_route.specs.Sealing.{sealed};
+ghost use Rattle.rpc_route.specs.Routing.{caller_of};
+ghost use Rattle.service.specs.Turns.{no_reply, cred_of};
+ghost use Rattle.service.specs.Steps.{TakesTurn, TakesCall, MovesOrStays};
+
+use crate::no_reply::NoReply;
+use crate::tree::Tree;
+use mount3::Exports;
+use nfs3_types::{Call, Cred, Moment, NoMemory, Reply, own_call};
+use outside::Clock;
+use rpc_msg::{Who, own_cred};
+use rpc_route::{RouteFault, Routed, route, seal, seal_system};
+use std::alloc::Global;
+
+/// How many bytes of room a reply buffer keeps: those of the reply that says that memory ran out.
+pub const LEAST_ROOM: usize = 28;
+
+/// Who calls, owned, as the tree is told.
+fn own_caller(alloc: Global, uid: u32, gid: u32, gids: &[u8]) -> Result<Cred, NoMemory>
+    requires { length gids.now % 4 ≡ 0 }
+    ensures { IfOk result (λ cred. cred ≡ cred_of (record { uid = uid; gid = gid; gids = words_in gids.now })) }
+{
+    own_cred(alloc, &Who { uid, gid, gids })
+}
+
+/// Asks the tree.
+fn ask<T: Tree>(
+    alloc: Global,
+    tree: &mut T,
+    who: &Who<'_>,
+    call: &Call<'_>,
+    moment: Moment,
+) -> Result<Reply, NoMemory>
+    requires built { IsTrue (T.answering.is_built call.now) }
+    requires whole { length who.now.gids.now % 4 ≡ 0 }
+    ensures ok { IfOk result (λ reply. reply ≡ T.answering.answer (T.plain tree.old) (cred_of (caller_of who.now)) call.now moment) }
+    ensures spelled { IfOk result (λ reply. IsSpelled reply) }
+    ensures next { OnOk result (T.plain tree.new ≡ T.answering.after (T.plain tree.old) (cred_of (caller_of who.now)) call.now moment) }
+    ensures err { OnErr result (T.plain tree.new ≡ T.plain tree.old) }
+{
+    let cred = own_caller(alloc, who.uid, who.gid, who.gids)?;
+    let own = own_call(alloc, call)?;
+    tree.answer(alloc, &cred, &own, moment)
+}
+
+/// Answers a call that is built, where memory suffices.
+fn try_call<T: Tree>(
+    alloc: Global,
+    tree: &mut T,
+    xid: u32,
+    who: &Who<'_>,
+    call: &Call<'_>,
+    moment: Moment,
+    out: &mut Vec<u8>,
+) -> Result<(), NoMemory>
+    requires built { IsTrue (T.answering.is_built call.now) }
+    requires whole { length who.now.gids.now % 4 ≡ 0 }
+    requires empty { out.old.items ≡ [] }
+    ensures reply { OnOk result (out.new.items ≡ sealed xid (T.answering.answer (T.plain tree.old) (cred_of (caller_of who.now)) call.now moment)) }
+    ensures next { OnOk result (T.plain tree.new ≡ T.answering.after (T.plain tree.old) (cred_of (caller_of who.now)) call.now moment) }
+    ensures none { OnErr result (out.new.items ≡ []) }
+    ensures tree { OnErr result (MovesOrStays (T.plain tree.old) (T.plain tree.new) (T.answering.after (T.plain tree.old) (cred_of (caller_of who.now)) call.now moment)) }
+    ensures capacity { vec_capacity out.old ≤ vec_capacity out.new }
+{
+    let reply = ask(alloc, tree, who, call, moment)?;
+    seal(xid, &reply, out)
+}
+
+/// Answers a call that is built, or says that memory ran out.
+fn answer_built<T: Tree>(
+    alloc: Global,
+    tree: &mut T,
+    xid: u32,
+    who: &Who<'_>,
+    call: &Call<'_>,
+    moment: Moment,
+    out: &mut Vec<u8>,
+)
+    requires built { IsTrue (T.answering.is_built call.now) }
+    requires whole { length who.now.gids.now % 4 ≡ 0 }
+    requires empty { out.old.items ≡ [] }
+    requires room { LEAST_ROOM ≤ vec_capacity out.old }
+    ensures taken { TakesCall T.answering (T.plain tree.old) (T.plain tree.new) xid (caller_of who.now) call.now moment out.new.items }
+    ensures capacity { vec_capacity out.old ≤ vec_capacity out.new }
+{
+    let Ok(()) = try_call(alloc, tree, xid, who, call, moment, out) else {
+        seal_system(xid, out);
+        return;
+    };
+}
+
+/// Answers a record into `out`, where it has a reply. A call that needs the tree takes a moment of the
+/// clock first. Where memory lacks for the reply, it is the one that says so.
+pub fn answer_record<T: Tree, C: Clock>(
+    alloc: Global,
+    exports: &Exports,
+    tree: &mut T,
+    content: &[u8],
+    clock: &mut C,
+    out: &mut Vec<u8>,
+) -> Result<(), NoReply>
+    requires { LEAST_ROOM ≤ vec_capacity out.old }
+    ensures ok { OnOk result (TakesTurn T.answering exports.now.fsid C.given C.to_come (T.plain tree.old) (T.plain tree.new) clock.old clock.new content.now out.new.items) }
+    ensures err { IfErr result (λ why. no_reply T.answering.is_built exports.now.fsid content.now ≡ Some why) }
+    ensures same_tree { OnErr result (T.plain tree.new ≡ T.plain tree.old) }
+    ensures no_moment { OnErr result (clock.new ≡ clock.old) }
+    ensures capacity { vec_capacity out.old ≤ vec_capacity out.new }
+{
+    out.clear();
+    match route(content, exports, out) {
+        Ok(Routed::Ready) => Ok(()),
+        Ok(Routed::Nfs { xid, who, call }) => {
+            if !T::is_built(&call) {
+                return Err(NoReply::NotBuilt);
+            }
+            let moment = clock.now();
+            answer_built(alloc, tree, xid, &who, &call, moment, out);
+            Ok(())
+        }
+        Err(RouteFault::BadRecord(_)) => Err(NoReply::BadRecord),
+        Err(RouteFault::NoMemory(starved)) => {
+            seal_system(starved, out);
+            Ok(())
+        }
+    }
+}
