@@ -1,0 +1,141 @@
+-- What the checks of a plan show: what holds of all that they find, and that no refusal says OK, or that the
+-- server failed or is to be called again later.
+use Rattle.std.proofs.Common.{◌≡◌, ℕ, Bool, true, false, if◌then◌else◌, List, Option, Some, None, Ok, Err}
+use Rattle.std.specs.Prelude.{⊤, IfSome, MatchResult}
+use Rattle.nfs3_types.specs.declared.args.DirOp.{DirOp}
+use Rattle.nfs3_types.specs.declared.status.Status.{Status}
+use Rattle.nfs3_types.specs.declared.status.Status.TheVariants.{Ok as StatusOk, ServerFault, Jukebox}
+use Rattle.fs_rules.specs.declared.place.Place.{Place}
+use Rattle.fs_rules.specs.declared.place.Place.TheVariants.{Live, SnapshotDirectory, Kept}
+use Rattle.fs_rules.specs.Checks.{Check, ◌>>=◌, as_directory, as_file, as_link, found, good_name, live_directory, live_in, live_or, no_fault, some_or, unless}
+use Rattle.fs_rules.specs.Names.{name_fault, target_fault}
+use Rattle.fs_rules.specs.Places.{Object}
+use Rattle.fs_rules.specs.Tree.{Node, Tree}
+
+-- neither OK, nor that the server failed or is to be called again later
+abbrev pub is_refusal : Status → Bool
+is_refusal StatusOk = false
+is_refusal ServerFault = false
+is_refusal Jukebox = false
+is_refusal status = true
+
+abbrev pub IsRefusal : Status → Type 0
+IsRefusal status = is_refusal status ≡ true
+
+-- what is found has the property, and what refuses is a refusal
+pub record Shows {A : Type 0} (P : A → Type 0) (c : Check A) : Type 0 where
+  pub is : MatchResult c P IsRefusal
+
+-- nothing is known of it
+abbrev pub Any : {A : Type 0} → A → Type 0
+Any a = ⊤
+
+-- ---- the parts of a plan
+
+-- what holds of either holds of the one that is chosen
+pub either_is : {A : Type 0} (P : A → Type 0) (b : Bool) (x y : A) → P x → P y → P (if b then x else y)
+either_is P true x y first second = first
+either_is P false x y first second = second
+
+-- a check, and the checks behind it, which may count on what it found
+pub in_order : {A B : Type 0} (P : A → Type 0) (Q : B → Type 0) (c : Check A) (f : A → Check B) → Shows P c → ((a : A) → P a → Shows Q (f a)) → Shows Q (c >>= f)
+in_order P Q (Ok a) f first next = next a first.is
+in_order P Q (Err status) f first next = record { is = first.is }
+
+-- the same where nothing is known of what it found
+pub behind : {A B : Type 0} (Q : B → Type 0) {c : Check A} {f : A → Check B} → Shows Any c → ((a : A) → Shows Q (f a)) → Shows Q (c >>= f)
+behind Q {c = c} {f = f} first next = in_order Any Q c f first (λ a _. next a)
+
+pub gives : {A : Type 0} (P : A → Type 0) (a : A) → P a → Shows P (Ok a)
+gives P a h = record { is = h }
+
+pub weaker : {A : Type 0} (P Q : A → Type 0) (c : Check A) → Shows P c → ((a : A) → P a → Q a) → Shows Q c
+weaker P Q (Ok a) h follows = record { is = follows a h.is }
+weaker P Q (Err status) h follows = record { is = h.is }
+
+pub unless_shows : (b : Bool) (status : Status) → IsRefusal status → Shows Any (unless b status)
+unless_shows true status h = record { is = h }
+unless_shows false status h = record { is = tt }
+
+pub some_or_shows : {A : Type 0} (x : Option A) (status : Status) → IsRefusal status → Shows Any (some_or x status)
+some_or_shows (Some a) status h = record { is = tt }
+some_or_shows None status h = record { is = h }
+
+pub either_shows : {A : Type 0} (P : A → Type 0) (b : Bool) (c d : Check A) → Shows P c → Shows P d → Shows P (if b then c else d)
+either_shows P b c d first second = either_is (Shows P) b c d first second
+
+-- ---- the checks that plans share
+
+pub found_shows : (t : Tree) (bytes : List ℕ) → Shows Any (found t bytes)
+unfolding found
+found_shows t bytes = search (behind, some_or_shows)
+
+pub as_directory_shows : (o : Object) → Shows Any (as_directory o)
+unfolding as_directory
+as_directory_shows o = search unless_shows
+
+pub as_file_shows : (o : Object) → Shows Any (as_file o)
+unfolding as_file
+as_file_shows o = search unless_shows
+
+pub as_link_shows : (o : Object) → Shows Any (as_link o)
+unfolding as_link
+as_link_shows o = search unless_shows
+
+live_in_shows : (status : Status) (place : Place) (n : Node) → IsRefusal status → Shows Any (live_in status place n)
+live_in_shows status (Live fileid) n h = record { is = tt }
+live_in_shows status SnapshotDirectory n h = record { is = h }
+live_in_shows status (Kept number fileid) n h = record { is = h }
+
+pub live_or_shows : (status : Status) (o : Object) → IsRefusal status → Shows Any (live_or status o)
+unfolding live_or
+live_or_shows status o h = live_in_shows status o.place o.node h
+
+-- a status, where there is one, is one of a refusal
+pub record Refuses (fault : Option Status) : Type 0 where
+  pub is : IfSome fault IsRefusal
+
+pub no_refuses : Refuses None
+no_refuses = record { is = tt }
+
+pub some_refuses : (status : Status) → IsRefusal status → Refuses (Some status)
+some_refuses status h = record { is = h }
+
+pub either_refuses : (b : Bool) (x y : Option Status) → Refuses x → Refuses y → Refuses (if b then x else y)
+either_refuses b x y first second = either_is Refuses b x y first second
+
+pub no_fault_shows : (fault : Option Status) → Refuses fault → Shows Any (no_fault fault)
+no_fault_shows (Some status) h = record { is = h.is }
+no_fault_shows None h = record { is = tt }
+
+pub name_fault_refuses : (name : List ℕ) → Refuses (name_fault name)
+unfolding name_fault
+name_fault_refuses name = search (either_refuses, some_refuses, no_refuses)
+
+pub target_fault_refuses : (target : List ℕ) → Refuses (target_fault target)
+unfolding target_fault
+target_fault_refuses target = search (either_refuses, some_refuses, no_refuses)
+
+pub good_name_shows : (name : List ℕ) → Shows Any (good_name name)
+unfolding good_name
+good_name_shows name = no_fault_shows (name_fault name) (name_fault_refuses name)
+
+pub live_directory_shows : (t : Tree) (a : DirOp (List ℕ)) → Shows Any (live_directory t a)
+unfolding live_directory
+live_directory_shows t a = search (behind, found_shows, as_directory_shows, live_or_shows, good_name_shows, gives) depth 12
+
+-- what a plan shows is found from its parts: `search checks`, under `unfolding` of the plan
+pub ruleset checks = (
+  behind,
+  gives,
+  unless_shows,
+  some_or_shows,
+  no_fault_shows,
+  found_shows,
+  as_directory_shows,
+  as_file_shows,
+  as_link_shows,
+  live_or_shows,
+  good_name_shows,
+  live_directory_shows,
+)

@@ -1,0 +1,15 @@
+pub mod Passed
+pub mod First
+pub mod NodesWithin
+pub mod TreesWithin
+pub mod Places
+pub mod SettingWithin
+pub mod MakingWithin
+pub mod RemovingWithin
+pub mod RenamingWithin
+pub mod SnapshotsWithin
+pub mod CallsWithin
+pub mod Checked
+pub mod Leaving
+pub mod Blaming
+pub mod Shaped
