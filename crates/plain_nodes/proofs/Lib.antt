@@ -1,0 +1,4 @@
+pub mod Adding
+pub mod Copying
+pub mod Counting
+pub mod Losing

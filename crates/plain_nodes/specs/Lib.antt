@@ -1,0 +1,4 @@
+pub mod Counts
+pub mod Needs
+pub mod Nodes
+pub mod Starting
