@@ -1,0 +1,9 @@
+pub mod Reads
+pub mod Entries
+pub mod Giving
+pub mod Room
+pub mod Linking
+pub mod Moving
+pub mod Needs
+pub mod Seeing
+pub mod Trees
