@@ -1,5 +1,5 @@
 -- Steps of answering: one record, and records in a row.
-use Rattle.std.proofs.Common.{◌≡◌, ◌==◌, false, ℕ, ◌-◌, ◌≤◌, ◌<◌, Bool, List, [], ◌∷◌, ◌++◌, length, take, drop, Option, None, Some, Result, Ok, Err, refl, sym, ◌∙◌, ap, arith, append_assoc, inl, inr, subst}
+use Rattle.std.proofs.Common.{◌≡◌, ◌==◌, false, ℕ, ◌-◌, ◌≤◌, ◌<◌, Bool, List, [], ◌∷◌, ◌++◌, length, take, drop, Option, None, Result, Ok, Err, refl, sym, ◌∙◌, ap, arith, append_assoc, inl, inr, subst}
 use Rattle.std.proofs.lemmas.Bool.{cases_lt}
 use Rattle.std.proofs.lemmas.List.{append-nil, length-take, length-drop, take-append-drop, take_rest, take_all}
 use Rattle.nfs3_types.specs.declared.moment.Moment.{Moment}
@@ -13,14 +13,14 @@ use Rattle.rpc_records.specs.Reading.Reading.{Whole, Partial, Refused}
 use Rattle.rpc_records.specs.Progress.{Progress, IsUnfinished, Feeds, reading_of, refusal_of, kept_by}
 use Rattle.rpc_records.specs.Progress.Progress.{InHead, InFragment, Holding, Refusing}
 use Rattle.rpc_records.specs.Stream.{HasRead}
-use Rattle.service.specs.declared.no_reply.NoReply.{NoReply}
+use Rattle.rpc_msg.specs.declared.call.HeadFault.{HeadFault}
+use Rattle.rpc_route.specs.Immediate.{Bad, immediate_reply}
 use Rattle.service.specs.declared.session.SessionEnd.{SessionEnd}
-use Rattle.service.specs.declared.session.SessionEnd.TheVariants.{TooLong, WriteFault}
-use Rattle.service.specs.Turns.{Answering, Turn, contents, moments_of, transcript, tree_behind, no_reply}
-use Rattle.service.specs.Course.{end_without}
+use Rattle.service.specs.declared.session.SessionEnd.TheVariants.{TooLong, BadRecord, WriteFault}
+use Rattle.service.specs.Turns.{Answering, Turn, contents, moments_of, transcript, tree_behind, is_no_call, no_reply}
 use Rattle.service.specs.Session.{Serves, Wrote, GainsFront}
 use Rattle.service.specs.Steps.{TakesTurn, IsReading, Went, GoesOn, StopsAs, Answered, AnsweredAll, AnsweredUntil}
-use Rattle.service.proofs.CourseSteps.{answered-nil, answered-one, answered-append, stops-too_long, stops-no_reply, stops-writing}
+use Rattle.service.proofs.CourseSteps.{answered-nil, answered-one, answered-append, stops-too_long, stops-no_call, stops-writing}
 use Rattle.service.proofs.TurnSteps.{contents-append, moments-append, behind-append, transcript-append, wrote-behind, wrote-all}
 
 -- ---- parts of a text, one behind the other
@@ -32,13 +32,13 @@ went-append old mid new p q rs ss first then text before h =
 went-nil : (now : Progress) → Went now now [] []
 went-nil now text before h = rw (append-nil text, append-nil before) h
 
-goes_on-append : (none : List ℕ → Option NoReply) (old mid new : Progress) (p q : List ℕ) (rs ss : List (List ℕ)) → GoesOn none old mid p rs → GoesOn none mid new q ss → GoesOn none old new (p ++ q) (rs ++ ss)
+goes_on-append : (none : List ℕ → Bool) (old mid new : Progress) (p q : List ℕ) (rs ss : List (List ℕ)) → GoesOn none old mid p rs → GoesOn none mid new q ss → GoesOn none old new (p ++ q) (rs ++ ss)
 goes_on-append none old mid new p q rs ss first then = record {
   went = went-append old mid new p q rs ss first.went then.went;
   answered = answered-append none rs ss first.answered then.answered;
 }
 
-stops-append : (none : List ℕ → Option NoReply) (end : SessionEnd) (old mid : Progress) (p q : List ℕ) (rs ss : List (List ℕ)) → GoesOn none old mid p rs → StopsAs none end mid q ss → StopsAs none end old (p ++ q) (rs ++ ss)
+stops-append : (none : List ℕ → Bool) (end : SessionEnd) (old mid : Progress) (p q : List ℕ) (rs ss : List (List ℕ)) → GoesOn none old mid p rs → StopsAs none end mid q ss → StopsAs none end old (p ++ q) (rs ++ ss)
 stops-append none end old mid p q rs ss first then text before h answered =
     rw (← append_assoc text p q, ← append_assoc before rs ss)
     (then (text ++ p) (before ++ rs) (first.went text before h) (answered-append none before rs answered first.answered))
@@ -47,10 +47,10 @@ dropped-went : (now new : Progress) (content : List ℕ) → now ≡ Holding con
 dropped-went now new content is stream text before h = rw append-nil (subst (λ (p : Progress). HasRead text (before ++ kept_by p) new) is (stream text before h))
 
 -- some bytes were fed
-fed-goes_on : (none : List ℕ → Option NoReply) (now fed : Progress) (part : List ℕ) → ((text : List ℕ) (before : List (List ℕ)) → HasRead text before now → HasRead (text ++ part) before fed) → GoesOn none now fed part []
+fed-goes_on : (none : List ℕ → Bool) (now fed : Progress) (part : List ℕ) → ((text : List ℕ) (before : List (List ℕ)) → HasRead text before now → HasRead (text ++ part) before fed) → GoesOn none now fed part []
 fed-goes_on none now fed part stream = record { went = λ text before h. rw append-nil (stream text before h); answered = answered-nil none }
 
-reading-on : (none : List ℕ → Option NoReply) (old new : Progress) (part : List ℕ) (records : List (List ℕ)) → IsReading old → GoesOn none old new part records → IsUnfinished new → IsReading new
+reading-on : (none : List ℕ → Bool) (old new : Progress) (part : List ℕ) (records : List (List ℕ)) → IsReading old → GoesOn none old new part records → IsUnfinished new → IsReading new
 reading-on none old new part records h on unfinished = record { text = h.text ++ part; dropped = h.dropped ++ records; read = on.went h.text h.dropped h.read; unfinished = unfinished }
 
 -- ---- feeding
@@ -150,31 +150,32 @@ module _ {T C K : Type 0} (a : Answering T) (fsid : ℕ) (given : C → Option (
   -- all was answered in one part, and in another
   answered-both : (tree tree' tree'' : T) (clock clock' clock'' : C) (sink sink' sink'' : K) (old mid new : Progress) (p q : List ℕ) → AnsweredAll a fsid given to_come written tree tree' clock clock' sink sink' old mid p → AnsweredAll a fsid given to_come written tree' tree'' clock' clock'' sink' sink'' mid new q → AnsweredAll a fsid given to_come written tree tree'' clock clock'' sink sink'' old new (p ++ q)
   answered-both tree tree' tree'' clock clock' clock'' sink sink' sink'' old mid new p q first then =
-      answered-join tree tree' tree'' clock clock' clock'' sink sink' sink'' (λ bytes all. bytes ≡ all) (GoesOn (no_reply a.is_built fsid) old mid p) (GoesOn (no_reply a.is_built fsid) mid new q) (GoesOn (no_reply a.is_built fsid) old new (p ++ q))
+      answered-join tree tree' tree'' clock clock' clock'' sink sink' sink'' (λ bytes all. bytes ≡ all) (GoesOn (no_reply fsid) old mid p) (GoesOn (no_reply fsid) mid new q) (GoesOn (no_reply fsid) old new (p ++ q))
       (λ before bytes all e. ap (λ (xs : List ℕ). before ++ xs) e)
-      (goes_on-append (no_reply a.is_built fsid) old mid new p q) first then
+      (goes_on-append (no_reply fsid) old mid new p q) first then
 
   -- all was answered in one part, and the session ended in another
   answered-until : (tree tree' tree'' : T) (clock clock' clock'' : C) (sink sink' sink'' : K) (end : SessionEnd) (old mid : Progress) (p q : List ℕ) → AnsweredAll a fsid given to_come written tree tree' clock clock' sink sink' old mid p → AnsweredUntil a fsid given to_come written tree' tree'' clock' clock'' sink' sink'' end mid q → AnsweredUntil a fsid given to_come written tree tree'' clock clock'' sink sink'' end old (p ++ q)
   answered-until tree tree' tree'' clock clock' clock'' sink sink' sink'' end old mid p q first then =
-      answered-join tree tree' tree'' clock clock' clock'' sink sink' sink'' (Wrote end) (GoesOn (no_reply a.is_built fsid) old mid p) (StopsAs (no_reply a.is_built fsid) end mid q) (StopsAs (no_reply a.is_built fsid) end old (p ++ q))
+      answered-join tree tree' tree'' clock clock' clock'' sink sink' sink'' (Wrote end) (GoesOn (no_reply fsid) old mid p) (StopsAs (no_reply fsid) end mid q) (StopsAs (no_reply fsid) end old (p ++ q))
       (wrote-behind end)
-      (stops-append (no_reply a.is_built fsid) end old mid p q) first then
+      (stops-append (no_reply fsid) end old mid p q) first then
 
   -- nothing was answered, and the session ended so
-  ended-none : (tree : T) (clock : C) (sink : K) (end : SessionEnd) (old : Progress) (part : List ℕ) → StopsAs (no_reply a.is_built fsid) end old part [] → AnsweredUntil a fsid given to_come written tree tree clock clock sink sink end old part
+  ended-none : (tree : T) (clock : C) (sink : K) (end : SessionEnd) (old : Progress) (part : List ℕ) → StopsAs (no_reply fsid) end old part [] → AnsweredUntil a fsid given to_come written tree tree clock clock sink sink end old part
   ended-none tree clock sink end old part stops = record { turns = []; bytes = []; serves = serves-none tree clock sink; wrote = wrote-all end []; ends = stops }
 
   -- ---- the record that is kept
 
   -- no record is whole
   pub whole-none : (tree : T) (clock : C) (sink : K) (now : Progress) → AnsweredAll a fsid given to_come written tree tree clock clock sink sink now now []
-  whole-none tree clock sink now = record { turns = []; bytes = []; serves = serves-none tree clock sink; wrote = refl; ends = record { went = went-nil now; answered = answered-nil (no_reply a.is_built fsid) } }
+  whole-none tree clock sink now = record { turns = []; bytes = []; serves = serves-none tree clock sink; wrote = refl; ends = record { went = went-nil now; answered = answered-nil (no_reply fsid) } }
 
-  -- it has no reply
-  pub whole-no_reply : (tree tree' : T) (clock clock' : C) (sink : K) (now : Progress) (content more : List ℕ) (why : NoReply) → now ≡ Holding content → no_reply a.is_built fsid content ≡ Some why → tree' ≡ tree → clock' ≡ clock → AnsweredUntil a fsid given to_come written tree tree' clock clock' sink sink (end_without why) now more
-  whole-no_reply tree tree' clock clock' sink now content more why is none same still =
-      rw (same, still) (ended-none tree clock sink (end_without why) now more (rw is (stops-no_reply (no_reply a.is_built fsid) why content more none)))
+  -- it is no call
+  pub whole-no_call : (tree tree' : T) (clock clock' : C) (sink : K) (now : Progress) (content more : List ℕ) (fault : HeadFault) → now ≡ Holding content → immediate_reply fsid content ≡ Bad fault → tree' ≡ tree → clock' ≡ clock → AnsweredUntil a fsid given to_come written tree tree' clock clock' sink sink BadRecord now more
+  unfolding no_reply
+  whole-no_call tree tree' clock clock' sink now content more fault is bad same still =
+      rw (same, still) (ended-none tree clock sink BadRecord now more (rw is (stops-no_call (no_reply fsid) content more (ap is_no_call bad))))
 
   -- its reply is written in part
   pub whole-write_fault : (tree tree' : T) (clock clock' : C) (sink sink' : K) (now : Progress) (content more out : List ℕ) → now ≡ Holding content → TakesTurn a fsid given to_come tree tree' clock clock' content out → GainsFront (written sink) (written sink') out → AnsweredUntil a fsid given to_come written tree tree' clock clock' sink sink' WriteFault now more
@@ -183,7 +184,7 @@ module _ {T C K : Type 0} (a : Answering T) (fsid : ℕ) (given : C → Option (
     bytes = front.bytes;
     serves = serves-one tree tree' clock clock' sink sink' content out front.bytes taken front.gained;
     wrote = subst (Wrote WriteFault front.bytes) (taken.reply_is ∙ sym (append-nil _)) front.front;
-    ends = rw (is, taken.content_is) (stops-writing (no_reply a.is_built fsid) content more taken.answered);
+    ends = rw (is, taken.content_is) (stops-writing (no_reply fsid) content more taken.answered);
   }
 
   -- its reply is written
@@ -194,7 +195,7 @@ module _ {T C K : Type 0} (a : Answering T) (fsid : ℕ) (given : C → Option (
     bytes = out;
     serves = serves-one tree tree' clock clock' sink sink' content out out taken gained;
     wrote = taken.reply_is ∙ sym (append-nil _);
-    ends = rw taken.content_is (record { went = dropped-went now new content is stream; answered = answered-one (no_reply a.is_built fsid) content taken.answered });
+    ends = rw taken.content_is (record { went = dropped-went now new content is stream; answered = answered-one (no_reply fsid) content taken.answered });
   }
 
 -- ---- a piece
@@ -229,7 +230,7 @@ module _ {T C K : Type 0} (a : Answering T) (fsid : ℕ) (given : C → Option (
       → ((text : List ℕ) (before : List (List ℕ)) → HasRead text before now → HasRead (text ++ part) before fed) → AnsweredAll a fsid given to_come written tree tree' clock clock' sink sink' old fed (front ++ part)
   passed tree tree' clock clock' sink sink' old now fed front part answered stream =
       answered-both a fsid given to_come written tree tree' tree' clock clock' clock' sink sink' sink' old now fed front part answered
-      (record { turns = []; bytes = []; serves = serves-none a fsid given to_come written tree' clock' sink'; wrote = refl; ends = fed-goes_on (no_reply a.is_built fsid) now fed part stream })
+      (record { turns = []; bytes = []; serves = serves-none a fsid given to_come written tree' clock' sink'; wrote = refl; ends = fed-goes_on (no_reply fsid) now fed part stream })
 
   pub piece-goes_on : (tree tree' tree'' : T) (clock clock' clock'' : C) (sink sink' sink'' : K) (old now fed new : Progress) (piece rest : List ℕ) (n : ℕ) → IsReading old → PieceSoFar tree tree' clock clock' sink sink' old now piece rest
       → ((text : List ℕ) (before : List (List ℕ)) → HasRead text before now → HasRead (text ++ take n rest) before fed) → AnsweredAll a fsid given to_come written tree' tree'' clock' clock'' sink' sink'' fed new [] → IsUnfinished new → faults sink' ≤ faults sink'' → PieceSoFar tree tree'' clock clock'' sink sink'' old new piece (take (length rest - n) (drop n rest))
@@ -240,7 +241,7 @@ module _ {T C K : Type 0} (a : Answering T) (fsid : ℕ) (given : C → Option (
         front = (so_far.front ++ take n rest) ++ [];
         whole = so_far.whole ∙ (ap (λ (xs : List ℕ). so_far.front ++ xs) (sym (take-append-drop n rest)) ∙ (sym (append_assoc so_far.front (take n rest) (drop n rest)) ∙ ap (λ (xs : List ℕ). xs ++ drop n rest) (sym (append-nil (so_far.front ++ take n rest)))));
         answered = all;
-        reading = reading-on (no_reply a.is_built fsid) old new ((so_far.front ++ take n rest) ++ []) (contents all.turns) reading all.ends unfinished;
+        reading = reading-on (no_reply fsid) old new ((so_far.front ++ take n rest) ++ []) (contents all.turns) reading all.ends unfinished;
         never_falls = omega (arith, so_far.never_falls);
       })
 
@@ -258,7 +259,7 @@ module _ {T C K : Type 0} (a : Answering T) (fsid : ℕ) (given : C → Option (
       → ((text : List ℕ) (before : List (List ℕ)) → HasRead text before now → HasRead (text ++ rest) before new) → AnsweredUntil a fsid given to_come written tree tree' clock clock' sink sink' TooLong old piece
   piece-too_long tree tree' clock clock' sink sink' old now new piece rest fault so_far f stream =
       let refused = refused-is now new rest fault f in
-      let stop = ended-none a fsid given to_come written tree' clock' sink' TooLong now rest (stops-too_long (no_reply a.is_built fsid) now new rest refused.0 refused.1 stream) in
+      let stop = ended-none a fsid given to_come written tree' clock' sink' TooLong now rest (stops-too_long (no_reply fsid) now new rest refused.0 refused.1 stream) in
       let all = answered-until a fsid given to_come written tree tree' tree' clock clock' clock' sink sink' sink' TooLong old now so_far.front rest so_far.answered stop in
       subst (λ (xs : List ℕ). AnsweredUntil a fsid given to_come written tree tree' clock clock' sink sink' TooLong old xs) (sym so_far.whole) all
 

@@ -1,5 +1,5 @@
 -- The course of a text, by what a reader of it has read.
-use Rattle.std.proofs.Common.{◌≡◌, ◌==◌, ℕ, true, false, List, [], ◌∷◌, ◌++◌, length, Option, Some, None, refl, sym, ◌∙◌, ap, subst, ◌⊎◌, inl, inr, append_assoc, arith}
+use Rattle.std.proofs.Common.{◌≡◌, ◌==◌, ℕ, Bool, true, false, List, [], ◌∷◌, ◌++◌, length, Option, None, refl, sym, ◌∙◌, ap, subst, ◌⊎◌, inl, inr, append_assoc, arith}
 use Rattle.std.proofs.lemmas.Bool.{ne_eqb}
 use Rattle.std.proofs.lemmas.List.{append-nil}
 use Rattle.rpc_records.specs.declared.fault.RecordFault.{RecordFault}
@@ -9,17 +9,15 @@ use Rattle.rpc_records.specs.Progress.Progress.{InHead, InFragment, Holding, Ref
 use Rattle.rpc_records.specs.Stream.{HasRead}
 use Rattle.rpc_records.proofs.StreamLaws.{HasRead-follows}
 use Rattle.rpc_records.proofs.MarkingLaws.{marking-append_none}
-use Rattle.service.specs.declared.no_reply.NoReply.{NoReply}
-use Rattle.service.specs.declared.no_reply.NoReply.TheVariants as without
 use Rattle.service.specs.declared.session.SessionEnd.{SessionEnd}
-use Rattle.service.specs.declared.session.SessionEnd.TheVariants.{Done, CutRecord, TooLong, WriteFault}
-use Rattle.service.specs.Course.{Course, ending, followed_by, end_without, begun_by, course_of, end_behind, course}
+use Rattle.service.specs.declared.session.SessionEnd.TheVariants.{Done, CutRecord, TooLong, BadRecord, WriteFault}
+use Rattle.service.specs.Course.{Course, ending, followed_by, begun_by, course_of, end_behind, course}
 use Rattle.service.specs.Session.{ConsistsOf, AnswersAll}
 use Rattle.service.specs.Steps.{AreAnswered, StopsAs}
 
 -- ---- records in a row
 
-course_of-append : (none : List ℕ → Option NoReply) (rs ss : List (List ℕ)) (others : Course) → course_of none (rs ++ ss) others ≡ course_of none rs (course_of none ss others)
+course_of-append : (none : List ℕ → Bool) (rs ss : List (List ℕ)) (others : Course) → course_of none (rs ++ ss) others ≡ course_of none rs (course_of none ss others)
 course_of-append none [] ss others = refl
 course_of-append none (r ∷ rs) ss others = ap (begun_by r (none r)) (course_of-append none rs ss others)
 
@@ -29,13 +27,13 @@ followed_by-append rs ss c = rw (append_assoc rs ss c.answered) refl
 followed_by-ending : (rs : List (List ℕ)) (end : SessionEnd) → ConsistsOf (followed_by rs (ending end)) rs end
 followed_by-ending rs end = rw (append-nil rs) refl
 
-pub answered-nil : (none : List ℕ → Option NoReply) → AreAnswered none []
+pub answered-nil : (none : List ℕ → Bool) → AreAnswered none []
 answered-nil none others = refl
 
-pub answered-one : (none : List ℕ → Option NoReply) (content : List ℕ) → none content ≡ None → AreAnswered none (content ∷ [])
-answered-one none content h others = ap (λ (r : Option NoReply). begun_by content r others) h
+pub answered-one : (none : List ℕ → Bool) (content : List ℕ) → none content ≡ false → AreAnswered none (content ∷ [])
+answered-one none content h others = ap (λ (b : Bool). begun_by content b others) h
 
-pub answered-append : (none : List ℕ → Option NoReply) (rs ss : List (List ℕ)) → AreAnswered none rs → AreAnswered none ss → AreAnswered none (rs ++ ss)
+pub answered-append : (none : List ℕ → Bool) (rs ss : List (List ℕ)) → AreAnswered none rs → AreAnswered none ss → AreAnswered none (rs ++ ss)
 answered-append none rs ss first then others =
     course_of-append none rs ss others ∙ (ap (course_of none rs) (then others) ∙ (first (followed_by ss others) ∙ followed_by-append rs ss others))
 
@@ -54,7 +52,7 @@ unfinished-accepted (Holding content) un = absurd un
 unfinished-accepted (Refusing fault) un = absurd un
 
 -- a text all of whose whole records were read and answered
-follows-all : (none : List ℕ → Option NoReply) (text : List ℕ) (records : List (List ℕ)) (now : Progress) → HasRead text records now → kept_by now ≡ [] → AreAnswered none records
+follows-all : (none : List ℕ → Bool) (text : List ℕ) (records : List (List ℕ)) (now : Progress) → HasRead text records now → kept_by now ≡ [] → AreAnswered none records
     → ConsistsOf (course none text) records (end_behind (refusal_of now) (marking text).rest)
 follows-all none text records now read kept answered =
     let follows = HasRead-follows text records now read in
@@ -77,25 +75,25 @@ end-open [] = inl refl
 end-open (byte ∷ rest) = inr refl
 
 -- the same, where no refusal was met
-follows-rest : (none : List ℕ → Option NoReply) (text : List ℕ) (records : List (List ℕ)) (now : Progress) → HasRead text records now → IsUnfinished now → AreAnswered none records
+follows-rest : (none : List ℕ → Bool) (text : List ℕ) (records : List (List ℕ)) (now : Progress) → HasRead text records now → IsUnfinished now → AreAnswered none records
     → ConsistsOf (course none text) records (end_behind None (marking text).rest)
 follows-rest none text records now read un answered =
     follows-all none text records now read (unfinished-kept now un) answered
     ∙ ap (λ (r : Option RecordFault). record { answered = records; end = end_behind r (marking text).rest }) (unfinished-accepted now un)
 
-pub follows-done : (none : List ℕ → Option NoReply) (text : List ℕ) (records : List (List ℕ)) (now : Progress) → HasRead text records now → IsUnfinished now → AreAnswered none records
+pub follows-done : (none : List ℕ → Bool) (text : List ℕ) (records : List (List ℕ)) (now : Progress) → HasRead text records now → IsUnfinished now → AreAnswered none records
     → is_at_edge now ≡ true → ConsistsOf (course none text) records Done
 follows-done none text records now read un answered edge =
     follows-rest none text records now read un answered
     ∙ ap (λ (e : SessionEnd). record { answered = records; end = e }) (end-done (marking text).rest (sym edge ∙ (HasRead-follows text records now read).edge))
 
-pub follows-cut : (none : List ℕ → Option NoReply) (text : List ℕ) (records : List (List ℕ)) (now : Progress) → HasRead text records now → IsUnfinished now → AreAnswered none records
+pub follows-cut : (none : List ℕ → Bool) (text : List ℕ) (records : List (List ℕ)) (now : Progress) → HasRead text records now → IsUnfinished now → AreAnswered none records
     → is_at_edge now ≡ false → ConsistsOf (course none text) records CutRecord
 follows-cut none text records now read un answered edge =
     follows-rest none text records now read un answered
     ∙ ap (λ (e : SessionEnd). record { answered = records; end = e }) (end-cut (marking text).rest (sym edge ∙ (HasRead-follows text records now read).edge))
 
-pub follows-open : (none : List ℕ → Option NoReply) (text : List ℕ) (records : List (List ℕ)) (now : Progress) → HasRead text records now → IsUnfinished now → AreAnswered none records
+pub follows-open : (none : List ℕ → Bool) (text : List ℕ) (records : List (List ℕ)) (now : Progress) → HasRead text records now → IsUnfinished now → AreAnswered none records
     → AnswersAll (course none text) records
 follows-open none text records now read un answered =
     let all = follows-rest none text records now read un answered in
@@ -108,18 +106,18 @@ follows-open none text records now read un answered =
 -- ---- where the answering stops
 
 -- record marking refuses the text
-pub stops-too_long : (none : List ℕ → Option NoReply) (old new : Progress) (part : List ℕ) (fault : RecordFault) → new ≡ Refusing fault
+pub stops-too_long : (none : List ℕ → Bool) (old new : Progress) (part : List ℕ) (fault : RecordFault) → new ≡ Refusing fault
     → ((text : List ℕ) (before : List (List ℕ)) → HasRead text before old → HasRead (text ++ part) before new) → StopsAs none TooLong old part []
 stops-too_long none old new part fault is stream text before h answered =
     let read = subst (HasRead (text ++ part) before) is (stream text before h) in
     rw (append-nil before) (follows-all none (text ++ part) before (Refusing fault) read refl answered)
 
 -- a whole record stands in the text, behind those that were answered, and these others behind it
-record Meets (none : List ℕ → Option NoReply) (text : List ℕ) (before : List (List ℕ)) (content : List ℕ) : Type 0 where
+record Meets (none : List ℕ → Bool) (text : List ℕ) (before : List (List ℕ)) (content : List ℕ) : Type 0 where
   others : Course
   is : course none text ≡ followed_by before (begun_by content (none content) others)
 
-meets : (none : List ℕ → Option NoReply) (text more content : List ℕ) (before : List (List ℕ)) → HasRead text before (Holding content) → AreAnswered none before → Meets none (text ++ more) before content
+meets : (none : List ℕ → Bool) (text more content : List ℕ) (before : List (List ℕ)) → HasRead text before (Holding content) → AreAnswered none before → Meets none (text ++ more) before content
 meets none text more content before h answered =
     let follows = HasRead-follows text before (Holding content) h in
     let behind = marking ((marking text).rest ++ more) in
@@ -134,20 +132,17 @@ meets none text more content before h answered =
           ∙ answered (begun_by content (none content) (course_of none behind.records end))));
     }
 
--- a record has no reply
-pub stops-no_reply : (none : List ℕ → Option NoReply) (why : NoReply) (content more : List ℕ) → none content ≡ Some why → StopsAs none (end_without why) (Holding content) more []
-stops-no_reply none without.BadRecord content more is text before h answered =
+-- a record is no call
+pub stops-no_call : (none : List ℕ → Bool) (content more : List ℕ) → none content ≡ true → StopsAs none BadRecord (Holding content) more []
+stops-no_call none content more is text before h answered =
     let m = meets none text more content before h answered in
-    m.is ∙ ap (λ (r : Option NoReply). followed_by before (begun_by content r m.others)) is
-stops-no_reply none without.NotBuilt content more is text before h answered =
-    let m = meets none text more content before h answered in
-    m.is ∙ ap (λ (r : Option NoReply). followed_by before (begun_by content r m.others)) is
+    m.is ∙ ap (λ (b : Bool). followed_by before (begun_by content b m.others)) is
 
 -- a reply could not be written whole
-pub stops-writing : (none : List ℕ → Option NoReply) (content more : List ℕ) → none content ≡ None → StopsAs none WriteFault (Holding content) more (content ∷ [])
+pub stops-writing : (none : List ℕ → Bool) (content more : List ℕ) → none content ≡ false → StopsAs none WriteFault (Holding content) more (content ∷ [])
 stops-writing none content more some text before h answered =
     let m = meets none text more content before h answered in
-    let is : course none (text ++ more) ≡ followed_by before (followed_by (content ∷ []) m.others) = m.is ∙ ap (λ (r : Option NoReply). followed_by before (begun_by content r m.others)) some in
+    let is : course none (text ++ more) ≡ followed_by before (followed_by (content ∷ []) m.others) = m.is ∙ ap (λ (b : Bool). followed_by before (begun_by content b m.others)) some in
     record {
       others = m.others.answered;
       first = ap (λ (c : Course). c.answered) is ∙ sym (append_assoc before (content ∷ []) m.others.answered);

@@ -5,8 +5,9 @@ pub mod TakenSteps
 pub mod CallerWords
 pub mod AnswerSteps
 pub mod SessionSteps
-pub mod FirstSpelled
-pub mod FirstAnswers
 pub mod OneWord
 pub mod Readings
 pub mod RunSteps
+pub mod Shapes
+pub mod ServedSteps
+pub mod SoundTrees

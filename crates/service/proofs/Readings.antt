@@ -4,7 +4,7 @@ use Rattle.std.proofs.lemmas.List.{append-nil}
 use Rattle.nfs3_types.specs.declared.moment.Moment.{Moment}
 use Rattle.rpc_route.specs.Immediate.{Immediate, Bad, Replied, Needs, immediate_reply}
 use Rattle.service.specs.declared.session.SessionEnd.{SessionEnd}
-use Rattle.service.specs.declared.session.SessionEnd.TheVariants.{Done, ReadFault, WriteFault, CutRecord, TooLong, BadRecord, ManyReads, NotBuilt}
+use Rattle.service.specs.declared.session.SessionEnd.TheVariants.{Done, ReadFault, WriteFault, CutRecord, TooLong, BadRecord, ManyReads}
 use Rattle.service.specs.Turns.{Answering, Memory, Turn, contents, memories, reply_by, tree_by, needs_tree, needs_moment, moment_of, moments_of, reply_to, tree_after, transcript, tree_behind, no_reply}
 use Rattle.service.specs.Course.{Course, course}
 use Rattle.service.specs.Session.{EndsAs, ConsistsOf, Follows, Wrote, IsByText, IsFront}
@@ -19,7 +19,6 @@ answered-are Done c records follows not = consists-answered c records Done follo
 answered-are CutRecord c records follows not = consists-answered c records CutRecord follows
 answered-are TooLong c records follows not = consists-answered c records TooLong follows
 answered-are BadRecord c records follows not = consists-answered c records BadRecord follows
-answered-are NotBuilt c records follows not = consists-answered c records NotBuilt follows
 answered-are ReadFault c records follows not = consists-answered c records c.end follows.all
 answered-are ManyReads c records follows not = consists-answered c records c.end follows.all
 answered-are WriteFault c records follows not = absurd (not refl)
@@ -29,7 +28,6 @@ follows-by_text Done c records follows by = ap (λ (d : Course). d.end) follows
 follows-by_text CutRecord c records follows by = ap (λ (d : Course). d.end) follows
 follows-by_text TooLong c records follows by = ap (λ (d : Course). d.end) follows
 follows-by_text BadRecord c records follows by = ap (λ (d : Course). d.end) follows
-follows-by_text NotBuilt c records follows by = ap (λ (d : Course). d.end) follows
 follows-by_text ReadFault c records follows by = absurd by
 follows-by_text ManyReads c records follows by = absurd by
 follows-by_text WriteFault c records follows by = absurd by
@@ -39,7 +37,6 @@ wrote-is Done bytes all w not = w
 wrote-is CutRecord bytes all w not = w
 wrote-is TooLong bytes all w not = w
 wrote-is BadRecord bytes all w not = w
-wrote-is NotBuilt bytes all w not = w
 wrote-is ReadFault bytes all w not = w
 wrote-is ManyReads bytes all w not = w
 wrote-is WriteFault bytes all w not = absurd (not refl)
@@ -131,11 +128,11 @@ module _ {T : Type 0} (a : Answering T) (fsid : ℕ) where
 
   pub one_records : (tree tree' : T) (text : List ℕ) (end other : SessionEnd) (r s : List Turn) (b c : List ℕ) → EndsAs a fsid tree end text r b → EndsAs a fsid tree' other text s c → (end ≡ WriteFault → ⊥) → (other ≡ WriteFault → ⊥) → contents r ≡ contents s
   one_records tree tree' text end other r s b c first second not nor =
-      sym (answered-are end (course (no_reply a.is_built fsid) text) (contents r) first.follows not) ∙ answered-are other (course (no_reply a.is_built fsid) text) (contents s) second.follows nor
+      sym (answered-are end (course (no_reply fsid) text) (contents r) first.follows not) ∙ answered-are other (course (no_reply fsid) text) (contents s) second.follows nor
 
   pub one_end : (tree tree' : T) (text : List ℕ) (end other : SessionEnd) (r s : List Turn) (b c : List ℕ) → EndsAs a fsid tree end text r b → EndsAs a fsid tree' other text s c → IsByText end → IsByText other → end ≡ other
   one_end tree tree' text end other r s b c first second by too =
-      sym (follows-by_text end (course (no_reply a.is_built fsid) text) (contents r) first.follows by) ∙ follows-by_text other (course (no_reply a.is_built fsid) text) (contents s) second.follows too
+      sym (follows-by_text end (course (no_reply fsid) text) (contents r) first.follows by) ∙ follows-by_text other (course (no_reply fsid) text) (contents s) second.follows too
 
   pub one_bytes : (tree : T) (text : List ℕ) (end other : SessionEnd) (r s : List Turn) (b c : List ℕ) → EndsAs a fsid tree end text r b → EndsAs a fsid tree other text s c → (end ≡ WriteFault → ⊥) → (other ≡ WriteFault → ⊥) → moments_of fsid r ≡ moments_of fsid s → memories r ≡ memories s → b ≡ c
   one_bytes tree text end other r s b c first second not nor ms ns =
@@ -151,7 +148,7 @@ module _ {T : Type 0} (a : Answering T) (fsid : ℕ) where
 
   pub broken_front : (tree : T) (text : List ℕ) (other : SessionEnd) (r s : List Turn) (b c : List ℕ) → EndsAs a fsid tree WriteFault text r b → EndsAs a fsid tree other text s c → (other ≡ WriteFault → ⊥) → IsFront (moments_of fsid r) (moments_of fsid s) → IsFront (memories r) (memories s) → IsFront b c
   broken_front tree text other r s b c first second nor ms ns =
-      let records = sym (answered-are other (course (no_reply a.is_built fsid) text) (contents s) second.follows nor) ∙ first.follows.first in
+      let records = sym (answered-are other (course (no_reply fsid) text) (contents s) second.follows nor) ∙ first.follows.first in
       let on = goes_on-from tree r s first.follows.others ms.rest ns.rest records ms.whole ns.whole in
       front-front b (transcript a fsid tree r) (transcript a fsid (tree_behind a fsid tree r) on.others) c first.wrote
       (wrote-is other c (transcript a fsid tree s) second.wrote nor ∙ on.bytes)

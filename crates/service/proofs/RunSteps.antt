@@ -4,13 +4,13 @@ use Rattle.std.specs.declared.alloc.Global.{Global}
 use Rattle.nfs3_types.specs.declared.moment.Moment.{Moment}
 use Rattle.outside.specs.Count.{Rose}
 use Rattle.service.specs.declared.session.SessionEnd.{SessionEnd}
-use Rattle.service.specs.declared.session.SessionEnd.TheVariants.{Done, ReadFault, WriteFault, CutRecord, TooLong, BadRecord, ManyReads, NotBuilt}
+use Rattle.service.specs.declared.session.SessionEnd.TheVariants.{Done, ReadFault, WriteFault, CutRecord, TooLong, BadRecord, ManyReads}
 use Rattle.service.specs.declared.command.RunEnd.{RunEnd}
 use Rattle.service.specs.declared.command.RunEnd.TheVariants.{Usage, NoMemory, Session}
 use Rattle.service.specs.Turns.{contents, no_reply}
 use Rattle.service.specs.Course.{course}
 use Rattle.service.specs.Session.{IsByText}
-use Rattle.service.specs.FirstTree.{fsid, answering}
+use Rattle.service.specs.Served.{fsid}
 use Rattle.service.specs.Run.{IsFeed, IsFed, Outcome, IsApart, EndsByText, status_of}
 use Rattle.service.proofs.Readings.{follows-by_text}
 
@@ -21,7 +21,7 @@ ends-by_text taken left read_faults given to_come written write_faults words sou
     record {
       text = s.text;
       gave = s.gave;
-      status_is = is ∙ ap (λ (e : SessionEnd). status_of (Session e)) (sym (follows-by_text end (course (no_reply answering.is_built fsid) s.text) (contents s.turns) s.ends.follows by));
+      status_is = is ∙ ap (λ (e : SessionEnd). status_of (Session e)) (sym (follows-by_text end (course (no_reply fsid) s.text) (contents s.turns) s.ends.follows by));
     }
 
 pub apart-or_by_text : {S C K : Type 0} (taken left : S → Option (List ℕ)) (read_faults : S → ℕ) (given : C → Option (List Moment)) (to_come : C → Option (ℕ → Moment)) (written : K → Option (List ℕ)) (write_faults : K → ℕ) (words : List (String Global)) (source source' : S) (clock clock' : C) (sink sink' : K) (end : RunEnd) (status : ℕ) → status ≡ status_of end → Outcome taken left read_faults given to_come written write_faults words source source' clock clock' sink sink' end → IsApart status ⊎ EndsByText taken left source source' status
@@ -34,7 +34,6 @@ apart-or_by_text taken left read_faults given to_come written write_faults words
 apart-or_by_text taken left read_faults given to_come written write_faults words source source' clock clock' sink sink' (Session CutRecord) status is outcome = inr (ends-by_text taken left read_faults given to_come written write_faults words source source' clock clock' sink sink' CutRecord status tt is outcome)
 apart-or_by_text taken left read_faults given to_come written write_faults words source source' clock clock' sink sink' (Session TooLong) status is outcome = inr (ends-by_text taken left read_faults given to_come written write_faults words source source' clock clock' sink sink' TooLong status tt is outcome)
 apart-or_by_text taken left read_faults given to_come written write_faults words source source' clock clock' sink sink' (Session BadRecord) status is outcome = inr (ends-by_text taken left read_faults given to_come written write_faults words source source' clock clock' sink sink' BadRecord status tt is outcome)
-apart-or_by_text taken left read_faults given to_come written write_faults words source source' clock clock' sink sink' (Session NotBuilt) status is outcome = inr (ends-by_text taken left read_faults given to_come written write_faults words source source' clock clock' sink sink' NotBuilt status tt is outcome)
 
 -- the same, where the words are the command and no count rose
 pub complete : {S C K : Type 0} (taken left : S → Option (List ℕ)) (read_faults : S → ℕ) (given : C → Option (List Moment)) (to_come : C → Option (ℕ → Moment)) (written : K → Option (List ℕ)) (write_faults : K → ℕ) (words : List (String Global)) (source source' : S) (clock clock' : C) (sink sink' : K) (end : RunEnd) (status : ℕ) → status ≡ status_of end → Outcome taken left read_faults given to_come written write_faults words source source' clock clock' sink sink' end
@@ -48,4 +47,3 @@ complete taken left read_faults given to_come written write_faults words source 
 complete taken left read_faults given to_come written write_faults words source source' clock clock' sink sink' (Session CutRecord) status is outcome feed read write = inr (inr (ends-by_text taken left read_faults given to_come written write_faults words source source' clock clock' sink sink' CutRecord status tt is outcome))
 complete taken left read_faults given to_come written write_faults words source source' clock clock' sink sink' (Session TooLong) status is outcome feed read write = inr (inr (ends-by_text taken left read_faults given to_come written write_faults words source source' clock clock' sink sink' TooLong status tt is outcome))
 complete taken left read_faults given to_come written write_faults words source source' clock clock' sink sink' (Session BadRecord) status is outcome feed read write = inr (inr (ends-by_text taken left read_faults given to_come written write_faults words source source' clock clock' sink sink' BadRecord status tt is outcome))
-complete taken left read_faults given to_come written write_faults words source source' clock clock' sink sink' (Session NotBuilt) status is outcome feed read write = inr (inr (ends-by_text taken left read_faults given to_come written write_faults words source source' clock clock' sink sink' NotBuilt status tt is outcome))

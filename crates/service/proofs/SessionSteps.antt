@@ -8,7 +8,6 @@ use Rattle.outside.proofs.ToldLaws.{gave_bytes-nil, gave_bytes-append}
 use Rattle.rpc_records.specs.Progress.{Progress, IsUnfinished, fresh, is_at_edge}
 use Rattle.rpc_records.specs.Stream.{HasRead}
 use Rattle.rpc_records.proofs.StreamLaws.{HasRead-fresh}
-use Rattle.service.specs.declared.no_reply.NoReply.TheVariants as without
 use Rattle.service.specs.declared.answering.Stop.{Stop}
 use Rattle.service.specs.declared.answering.Stop.TheVariants as stops
 use Rattle.service.specs.declared.session.SessionEnd.{SessionEnd}
@@ -42,15 +41,13 @@ record IsStop (end : SessionEnd) : Type 0 where
 
 stop_ends : (stop : Stop) → IsStop (end_of stop)
 stop_ends stops.TooLong = record { done = λ e. (cc); cut = λ e. (cc); many = λ e. (cc); read_fault = λ e. (cc) }
-stop_ends (stops.NoReply without.BadRecord) = record { done = λ e. (cc); cut = λ e. (cc); many = λ e. (cc); read_fault = λ e. (cc) }
-stop_ends (stops.NoReply without.NotBuilt) = record { done = λ e. (cc); cut = λ e. (cc); many = λ e. (cc); read_fault = λ e. (cc) }
+stop_ends stops.BadRecord = record { done = λ e. (cc); cut = λ e. (cc); many = λ e. (cc); read_fault = λ e. (cc) }
 stop_ends stops.WriteFault = record { done = λ e. (cc); cut = λ e. (cc); many = λ e. (cc); read_fault = λ e. (cc) }
 
 -- it is for a failed write only where that stopped it
 stop_writing : (stop : Stop) → end_of stop ≡ WriteFault → stop ≡ stops.WriteFault
 stop_writing stops.TooLong e = cc
-stop_writing (stops.NoReply without.BadRecord) e = cc
-stop_writing (stops.NoReply without.NotBuilt) e = cc
+stop_writing stops.BadRecord e = cc
 stop_writing stops.WriteFault e = refl
 
 module _ {T S C K : Type 0} (a : Answering T) (fsid : ℕ) (taken left : S → Option (List ℕ)) (read_faults : S → ℕ) (given : C → Option (List Moment)) (to_come : C → Option (ℕ → Moment)) (written : K → Option (List ℕ)) (write_faults : K → ℕ) where
@@ -62,7 +59,7 @@ module _ {T S C K : Type 0} (a : Answering T) (fsid : ℕ) (taken left : S → O
     pub gave : GaveBytes taken left source source' text
     pub read : HasRead text (contents turns) now
     pub unfinished : IsUnfinished now
-    pub answered : AreAnswered (no_reply a.is_built fsid) (contents turns)
+    pub answered : AreAnswered (no_reply fsid) (contents turns)
     pub serves : Serves a fsid given to_come written tree tree' clock clock' sink sink' turns bytes
     pub wrote : bytes ≡ transcript a fsid tree turns
     pub fewest : takes ≤ length text
@@ -81,7 +78,7 @@ module _ {T S C K : Type 0} (a : Answering T) (fsid : ℕ) (taken left : S → O
     gave = gave_bytes-nil taken left source;
     read = HasRead-fresh;
     unfinished = tt;
-    answered = answered-nil (no_reply a.is_built fsid);
+    answered = answered-nil (no_reply fsid);
     serves = serves-none a fsid given to_come written tree clock sink;
     wrote = refl;
     fewest = omega arith;
@@ -103,7 +100,7 @@ module _ {T S C K : Type 0} (a : Answering T) (fsid : ℕ) (taken left : S → O
         gave = gave_bytes-append taken left source source' source'' so_far.text (take n room) so_far.gave gave;
         read = rw same (next.ends.went so_far.text (contents so_far.turns) so_far.read);
         unfinished = unfinished;
-        answered = rw same (answered-append (no_reply a.is_built fsid) (contents so_far.turns) (contents next.turns) so_far.answered next.ends.answered);
+        answered = rw same (answered-append (no_reply fsid) (contents so_far.turns) (contents next.turns) so_far.answered next.ends.answered);
         serves = serves-append a fsid given to_come written tree tree' tree'' clock clock' clock'' sink sink' sink'' so_far.turns next.turns so_far.bytes next.bytes so_far.serves next.serves;
         wrote = wrote-append a fsid given to_come written (λ bytes all. bytes ≡ all) tree tree' so_far.turns next.turns so_far.bytes next.bytes (λ before bytes all e. ap (λ (xs : List ℕ). before ++ xs) e) so_far.serves.tree so_far.wrote next.wrote;
         fewest = omega (arith, so_far.fewest);
@@ -123,7 +120,7 @@ module _ {T S C K : Type 0} (a : Answering T) (fsid : ℕ) (taken left : S → O
     turns = so_far.turns;
     bytes = so_far.bytes;
     serves = so_far.serves;
-    ends = record { follows = follows-open (no_reply a.is_built fsid) so_far.text (contents so_far.turns) now so_far.read so_far.unfinished so_far.answered; wrote = so_far.wrote };
+    ends = record { follows = follows-open (no_reply fsid) so_far.text (contents so_far.turns) now so_far.read so_far.unfinished so_far.answered; wrote = so_far.wrote };
     ended = record {
       done = λ e. (cc);
       cut = λ e. (cc);
@@ -148,7 +145,7 @@ module _ {T S C K : Type 0} (a : Answering T) (fsid : ℕ) (taken left : S → O
     turns = so_far.turns;
     bytes = so_far.bytes;
     serves = so_far.serves;
-    ends = record { follows = follows-done (no_reply a.is_built fsid) so_far.text (contents so_far.turns) now so_far.read so_far.unfinished so_far.answered edge; wrote = so_far.wrote };
+    ends = record { follows = follows-done (no_reply fsid) so_far.text (contents so_far.turns) now so_far.read so_far.unfinished so_far.answered edge; wrote = so_far.wrote };
     ended = record {
       done = λ e. used;
       cut = λ e. (cc);
@@ -173,7 +170,7 @@ module _ {T S C K : Type 0} (a : Answering T) (fsid : ℕ) (taken left : S → O
     turns = so_far.turns;
     bytes = so_far.bytes;
     serves = so_far.serves;
-    ends = record { follows = follows-cut (no_reply a.is_built fsid) so_far.text (contents so_far.turns) now so_far.read so_far.unfinished so_far.answered edge; wrote = so_far.wrote };
+    ends = record { follows = follows-cut (no_reply fsid) so_far.text (contents so_far.turns) now so_far.read so_far.unfinished so_far.answered edge; wrote = so_far.wrote };
     ended = record {
       done = λ e. (cc);
       cut = λ e. used;
@@ -198,7 +195,7 @@ module _ {T S C K : Type 0} (a : Answering T) (fsid : ℕ) (taken left : S → O
     turns = so_far.turns;
     bytes = so_far.bytes;
     serves = so_far.serves;
-    ends = record { follows = follows-open (no_reply a.is_built fsid) so_far.text (contents so_far.turns) now so_far.read so_far.unfinished so_far.answered; wrote = so_far.wrote };
+    ends = record { follows = follows-open (no_reply fsid) so_far.text (contents so_far.turns) now so_far.read so_far.unfinished so_far.answered; wrote = so_far.wrote };
     ended = record {
       done = λ e. (cc);
       cut = λ e. (cc);
@@ -228,7 +225,7 @@ module _ {T S C K : Type 0} (a : Answering T) (fsid : ℕ) (taken left : S → O
         bytes = so_far.bytes ++ next.bytes;
         serves = serves-append a fsid given to_come written tree tree' tree'' clock clock' clock'' sink sink' sink'' so_far.turns next.turns so_far.bytes next.bytes so_far.serves next.serves;
         ends = record {
-          follows = subst (Follows (end_of stop) (course (no_reply a.is_built fsid) (so_far.text ++ take n room))) (sym (contents-append so_far.turns next.turns)) (next.ends so_far.text (contents so_far.turns) so_far.read so_far.answered);
+          follows = subst (Follows (end_of stop) (course (no_reply fsid) (so_far.text ++ take n room))) (sym (contents-append so_far.turns next.turns)) (next.ends so_far.text (contents so_far.turns) so_far.read so_far.answered);
           wrote = wrote-append a fsid given to_come written (Wrote (end_of stop)) tree tree' so_far.turns next.turns so_far.bytes next.bytes (wrote-behind (end_of stop)) so_far.serves.tree so_far.wrote next.wrote;
         };
         ended = record {

@@ -1,5 +1,5 @@
 -- What was done with one record is a turn.
-use Rattle.std.proofs.Common.{◌≡◌, ℕ, true, false, Bool, List, [], ◌∷◌, ◌++◌, Option, Some, Ok, Err, refl, sym, ◌∙◌, ap, subst, ⊎_elim}
+use Rattle.std.proofs.Common.{◌≡◌, ℕ, List, [], ◌∷◌, ◌++◌, Option, Ok, Err, refl, sym, ◌∙◌, ap, subst, ⊎_elim}
 use Rattle.nfs3_types.specs.declared.moment.Moment.{Moment}
 use Rattle.nfs3_types.specs.Calls.{Call}
 use Rattle.outside.specs.Clock.{GaveMoments}
@@ -15,7 +15,6 @@ use Rattle.rpc_route.specs.declared.routed.RouteFault.{RouteFault}
 use Rattle.rpc_route.specs.declared.routed.RouteFault.TheVariants.{BadRecord as BadHead, NoMemory}
 use Rattle.rpc_route.specs.Routing.{caller_of, HasReply, NeedsTree, LacksMemory, HasXid, RoutesRecord}
 use Rattle.rpc_route.specs.Sealing.{sealed}
-use Rattle.service.specs.declared.no_reply.NoReply.TheVariants.{BadRecord, NotBuilt}
 use Rattle.service.specs.Turns.{Answering, Memory, Enough, LacksBefore, LacksAfter, cred_of, no_memory, xid_in, reply_by, reply_to, tree_after, no_reply}
 use Rattle.service.specs.Steps.{MovesOrStays, TakesCall, TakesTurn}
 
@@ -78,23 +77,13 @@ module _ {T C : Type 0} (a : Answering T) (fsid : ℕ) (given : C → Option (Li
       replied-turn tree clock content reply out LacksBefore is (e ∙ sym (ap no_memory same))
 
   -- a call that needs the tree
-  pub turn-taken : (tree tree' : T) (clock clock' : C) (content out : List ℕ) (xid : ℕ) (caller : Caller) (lent : Call) (moment : Moment) → immediate_reply fsid content ≡ Needs xid caller lent → a.is_built lent ≡ true → GaveMoments given to_come clock clock' (moment ∷ []) → TakesCall a tree tree' xid caller lent moment out → TakesTurn a fsid given to_come tree tree' clock clock' content out
+  pub turn-taken : (tree tree' : T) (clock clock' : C) (content out : List ℕ) (xid : ℕ) (caller : Caller) (lent : Call) (moment : Moment) → immediate_reply fsid content ≡ Needs xid caller lent → GaveMoments given to_come clock clock' (moment ∷ []) → TakesCall a tree tree' xid caller lent moment out → TakesTurn a fsid given to_come tree tree' clock clock' content out
   unfolding reply_to tree_after no_reply
-  turn-taken tree tree' clock clock' content out xid caller lent moment is built gave taken = record {
+  turn-taken tree tree' clock clock' content out xid caller lent moment is gave taken = record {
     turn = record { content = content; moment = moment; memory = taken.memory };
     content_is = refl;
-    answered = rw (is, built) refl;
+    answered = rw is refl;
     tree = rw is taken.tree;
     gave = rw is gave;
     reply_is = rw is taken.reply_is;
   }
-
--- no call
-pub none-bad : (is_built : Call → Bool) (fsid : ℕ) (content : List ℕ) (fault : HeadFault) → immediate_reply fsid content ≡ Bad fault → no_reply is_built fsid content ≡ Some BadRecord
-unfolding no_reply
-none-bad is_built fsid content fault is = rw is refl
-
--- a call that is not built
-pub none-not_built : (is_built : Call → Bool) (fsid : ℕ) (content : List ℕ) (xid : ℕ) (caller : Caller) (lent : Call) → immediate_reply fsid content ≡ Needs xid caller lent → is_built lent ≡ false → no_reply is_built fsid content ≡ Some NotBuilt
-unfolding no_reply
-none-not_built is_built fsid content xid caller lent is not = rw (is, not) refl

@@ -3,7 +3,7 @@ use Rattle.std.proofs.Common.{◌≡◌, ℕ, List, [], ◌∷◌, ◌++◌, ref
 use Rattle.std.proofs.lemmas.List.{append-nil, map-append}
 use Rattle.std.proofs.lemmas.List.Concat.{flat_map-append}
 use Rattle.service.specs.declared.session.SessionEnd.{SessionEnd}
-use Rattle.service.specs.declared.session.SessionEnd.TheVariants.{Done, ReadFault, WriteFault, CutRecord, TooLong, BadRecord, ManyReads, NotBuilt}
+use Rattle.service.specs.declared.session.SessionEnd.TheVariants.{Done, ReadFault, WriteFault, CutRecord, TooLong, BadRecord, ManyReads}
 use Rattle.service.specs.Turns.{Answering, Turn, contents, moment_of, moments_of, reply_to, tree_after, transcript, tree_behind}
 use Rattle.service.specs.Session.{Wrote}
 
@@ -33,7 +33,6 @@ wrote-behind CutRecord before bytes all w = ap (λ (xs : List ℕ). before ++ xs
 wrote-behind TooLong before bytes all w = ap (λ (xs : List ℕ). before ++ xs) w
 wrote-behind BadRecord before bytes all w = ap (λ (xs : List ℕ). before ++ xs) w
 wrote-behind ManyReads before bytes all w = ap (λ (xs : List ℕ). before ++ xs) w
-wrote-behind NotBuilt before bytes all w = ap (λ (xs : List ℕ). before ++ xs) w
 
 pub wrote-all : (end : SessionEnd) (bytes : List ℕ) → Wrote end bytes bytes
 wrote-all WriteFault bytes = record { rest = []; whole = sym (append-nil bytes) }
@@ -43,4 +42,3 @@ wrote-all CutRecord bytes = refl
 wrote-all TooLong bytes = refl
 wrote-all BadRecord bytes = refl
 wrote-all ManyReads bytes = refl
-wrote-all NotBuilt bytes = refl

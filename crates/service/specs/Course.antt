@@ -1,12 +1,10 @@
 -- The course of a text: which of its records are answered, up to the place where it ends, and how it ends
 -- there. It hangs on the text alone, whatever the tree and the moments are.
-use Rattle.std.specs.Prelude.{ℕ, List, [], ◌∷◌, ◌++◌, Option, Some, None}
+use Rattle.std.specs.Prelude.{ℕ, Bool, true, false, List, [], ◌∷◌, ◌++◌, Option, Some, None}
 use Rattle.rpc_records.specs.declared.fault.RecordFault.{RecordFault}
 use Rattle.rpc_records.specs.Marking.{Marking, marking}
-use Rattle.service.specs.declared.no_reply.NoReply.{NoReply}
-use Rattle.service.specs.declared.no_reply.NoReply.TheVariants as without
 use Rattle.service.specs.declared.session.SessionEnd.{SessionEnd}
-use Rattle.service.specs.declared.session.SessionEnd.TheVariants.{Done, CutRecord, TooLong, BadRecord, NotBuilt}
+use Rattle.service.specs.declared.session.SessionEnd.TheVariants.{Done, CutRecord, TooLong, BadRecord}
 
 pub record Course : Type 0 where
   -- the records that are answered
@@ -21,18 +19,13 @@ ending end = record { answered = []; end = end }
 abbrev pub followed_by : List (List ℕ) → Course → Course
 followed_by records others = record { answered = records ++ others.answered; end = others.end }
 
--- how a record that has no reply ends it
-abbrev pub end_without : NoReply → SessionEnd
-end_without without.BadRecord = BadRecord
-end_without without.NotBuilt = NotBuilt
-
--- a record is answered, and then come the others; or it has no reply for this reason
-abbrev pub begun_by : List ℕ → Option NoReply → Course → Course
-begun_by content None others = followed_by (content ∷ []) others
-begun_by content (Some why) others = ending (end_without why)
+-- a record has no reply, which ends it; or it is answered, and then come the others
+abbrev pub begun_by : List ℕ → Bool → Course → Course
+begun_by content true others = ending BadRecord
+begun_by content false others = followed_by (content ∷ []) others
 
 -- the course of records, and of what stands behind them
-abbrev pub course_of : (List ℕ → Option NoReply) → List (List ℕ) → Course → Course
+abbrev pub course_of : (List ℕ → Bool) → List (List ℕ) → Course → Course
 course_of no_reply [] others = others
 course_of no_reply (content ∷ records) others = begun_by content (no_reply content) (course_of no_reply records others)
 
@@ -43,9 +36,9 @@ end_behind None [] = Done
 end_behind None (byte ∷ rest) = CutRecord
 
 -- the course of a text that record marking cuts so
-abbrev pub course_by : (List ℕ → Option NoReply) → Marking → Course
+abbrev pub course_by : (List ℕ → Bool) → Marking → Course
 course_by no_reply m = course_of no_reply m.records (ending (end_behind m.refusal m.rest))
 
 -- the course of a text, where these records have no reply
-abbrev pub course : (List ℕ → Option NoReply) → List ℕ → Course
+abbrev pub course : (List ℕ → Bool) → List ℕ → Course
 course no_reply text = course_by no_reply (marking text)

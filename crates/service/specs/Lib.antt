@@ -3,5 +3,5 @@ pub mod Course
 pub mod Session
 pub mod SessionRuns
 pub mod Steps
-pub mod FirstTree
+pub mod Served
 pub mod Run

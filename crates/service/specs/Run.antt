@@ -7,7 +7,7 @@ use Rattle.outside.specs.Count.{Rose}
 use Rattle.outside.specs.Told.{Gains, GaveBytes}
 use Rattle.outside.specs.Clock.{GaveMoments}
 use Rattle.service.specs.declared.session.SessionEnd.{SessionEnd}
-use Rattle.service.specs.declared.session.SessionEnd.TheVariants.{Done, ReadFault, WriteFault, CutRecord, TooLong, BadRecord, ManyReads, NotBuilt}
+use Rattle.service.specs.declared.session.SessionEnd.TheVariants.{Done, ReadFault, WriteFault, CutRecord, TooLong, BadRecord, ManyReads}
 use Rattle.service.specs.declared.command.RunEnd.{RunEnd}
 use Rattle.service.specs.declared.command.RunEnd.TheVariants.{Usage, NoMemory, Session}
 use Rattle.fs_rules.specs.Tree.{Tree}
@@ -15,7 +15,7 @@ use Rattle.service.specs.Turns.{no_reply}
 use Rattle.service.specs.Course.{course}
 use Rattle.service.specs.Session.{IsFront}
 use Rattle.service.specs.SessionRuns.{SessionRuns}
-use Rattle.service.specs.FirstTree.{fsid, answering, made_at}
+use Rattle.service.specs.Served.{fsid, answering, made_at}
 
 -- the words are the one word `feed`
 abbrev pub IsFeed : List (String Global) → Type 0
@@ -31,7 +31,6 @@ status_of (Session TooLong) = 5
 status_of (Session BadRecord) = 6
 status_of NoMemory = 7
 status_of (Session ManyReads) = 8
-status_of (Session NotBuilt) = 11
 
 -- a text and a line feed
 abbrev pub line : List ℕ → List ℕ
@@ -47,7 +46,6 @@ line_of (Session TooLong) = line (codes "fss: record too long")
 line_of (Session BadRecord) = line (codes "fss: bad record")
 line_of NoMemory = line (codes "fss: no memory")
 line_of (Session ManyReads) = line (codes "fss: too many reads")
-line_of (Session NotBuilt) = line (codes "fss: not built")
 
 -- the sink gained the line, or a front of it where it failed
 pub record Tells {E : Type 0} (written : E → Option (List ℕ)) (faults : E → ℕ) (old new : E) (text : List ℕ) : Type 0 where
@@ -106,4 +104,4 @@ IsApart status = (status ≡ 1) ⊎ (status ≡ 2) ⊎ (status ≡ 3) ⊎ (statu
 pub record EndsByText {S : Type 0} (taken left : S → Option (List ℕ)) (old_source new_source : S) (status : ℕ) : Type 0 where
   pub text : List ℕ
   pub gave : GaveBytes taken left old_source new_source text
-  pub status_is : status ≡ status_of (Session (course (no_reply answering.is_built fsid) text).end)
+  pub status_is : status ≡ status_of (Session (course (no_reply fsid) text).end)

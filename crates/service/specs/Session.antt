@@ -67,7 +67,7 @@ Wrote end bytes all = bytes ≡ all
 -- How a session ended, by the text that it took, the turns that it served from this tree on, and the bytes
 -- that it wrote.
 pub record EndsAs {T : Type 0} (a : Answering T) (fsid : ℕ) (tree : T) (end : SessionEnd) (text : List ℕ) (turns : List Turn) (bytes : List ℕ) : Type 0 where
-  pub follows : Follows end (course (no_reply a.is_built fsid) text) (contents turns)
+  pub follows : Follows end (course (no_reply fsid) text) (contents turns)
   pub wrote : Wrote end bytes (transcript a fsid tree turns)
 
 -- the ends that a text alone may bring

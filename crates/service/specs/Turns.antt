@@ -1,5 +1,5 @@
 -- What is answered to the records of one stream, one after another, on a tree that answers calls.
-use Rattle.std.specs.Prelude.{ℕ, Bool, true, false, List, [], ◌∷◌, ◌++◌, map, Option, Some, None, Result, Ok, Err, if◌then◌else◌}
+use Rattle.std.specs.Prelude.{ℕ, Bool, true, false, List, [], ◌∷◌, ◌++◌, map, Result, Ok, Err, if◌then◌else◌}
 use Rattle.std.specs.List.{flat_map}
 use Rattle.xdr_grammar.specs.declared.fault.XdrFault.{XdrFault}
 use Rattle.xdr_grammar.specs.Items.{word}
@@ -12,13 +12,9 @@ use Rattle.nfs3_types.specs.declared.reply.Reply.{Reply}
 use Rattle.nfs3_types.specs.Calls.{Call}
 use Rattle.rpc_route.specs.Immediate.{Immediate, Bad, Replied, Needs, immediate_reply}
 use Rattle.rpc_route.specs.Sealing.{sealed}
-use Rattle.service.specs.declared.no_reply.NoReply.{NoReply}
-use Rattle.service.specs.declared.no_reply.NoReply.TheVariants.{BadRecord, NotBuilt}
 
--- How a tree answers: which calls are built; and for a call of this caller at this moment the reply, and the
--- tree after it.
+-- How a tree answers: the reply to a call of this caller at this moment, and the tree after it.
 pub record Answering (T : Type 0) : Type 0 where
-  pub is_built : Call → Bool
   pub answer : T → Cred → Call → Moment → Reply
   pub after : T → Cred → Call → Moment → T
 
@@ -117,11 +113,11 @@ tree_behind a fsid tree (t ∷ turns) = tree_behind a fsid (tree_after a fsid tr
 
 -- ---- a record that is not answered
 
-abbrev pub no_reply_by : (Call → Bool) → Immediate → Option NoReply
-no_reply_by is_built (Bad fault) = Some BadRecord
-no_reply_by is_built (Replied reply) = None
-no_reply_by is_built (Needs xid caller call) = if is_built call then None else Some NotBuilt
+abbrev pub is_no_call : Immediate → Bool
+is_no_call (Bad fault) = true
+is_no_call (Replied reply) = false
+is_no_call (Needs xid caller call) = false
 
--- Why a record has no reply, if it has none: it is no call, or its call needs the tree and is not built.
-unfoldable pub no_reply : (Call → Bool) → ℕ → List ℕ → Option NoReply
-no_reply is_built fsid content = no_reply_by is_built (immediate_reply fsid content)
+-- whether a record has no reply: it is no call
+unfoldable pub no_reply : ℕ → List ℕ → Bool
+no_reply fsid content = is_no_call (immediate_reply fsid content)

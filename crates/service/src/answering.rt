@@ -4,7 +4,6 @@ ghost use Rattle.std.specs.Prelude.{◌≡◌, ℕ, ◌≤◌, List, [], None, v
 ghost use Rattle.rpc_records.specs.Progress.{IsUnfinished, refusal_of};
 ghost use Rattle.service.specs.Steps.{AnsweredAll, AnsweredUntil, StopHasCause, IsReading, end_of};
 
-use crate::no_reply::NoReply;
 use crate::one_call::{LEAST_ROOM, answer_record};
 use crate::put_all::put_all;
 use crate::tree::Tree;
@@ -18,8 +17,8 @@ use std::alloc::Global;
 pub enum Stop {
     /// Record marking refuses the stream: a record has too many bytes or fragments.
     TooLong,
-    /// A record has no reply.
-    NoReply(NoReply),
+    /// A record is no call.
+    BadRecord,
     /// A reply could not be written.
     WriteFault,
 }
@@ -49,7 +48,7 @@ fn answer_whole<T: Tree, C: Clock, K: Sink>(
     };
     match answer_record(alloc, exports, tree, content, clock, reply) {
         Ok(()) => {}
-        Err(fault) => return Err(Stop::NoReply(fault)),
+        Err(_) => return Err(Stop::BadRecord),
     }
     records.next();
     let Ok(()) = put_all(output, reply) else {

@@ -4,9 +4,9 @@ ghost use Rattle.std.specs.Prelude.{◌≡◌, ◌↔◌, ◌⊎◌, IfOk, OnErr
 ghost use Rattle.outside.specs.Count.{Rose};
 ghost use Rattle.service.specs.Run.{EndsByText, IsApart, IsFeed, Feeds, IsUntouched, Outcome, Runs, Tells, line_of, status_of};
 
-use crate::first_tree::{FSID, FirstTree};
 use crate::one_call::LEAST_ROOM;
 use crate::put_all::put_all;
+use crate::served_tree::{FSID, ServedTree};
 use crate::session::{ROOM, SessionEnd, session};
 use crate::words::is_feed;
 use mount3::Exports;
@@ -39,7 +39,6 @@ fn status(end: RunEnd) -> u8
         RunEnd::Session(SessionEnd::BadRecord) => 6,
         RunEnd::NoMemory => 7,
         RunEnd::Session(SessionEnd::ManyReads) => 8,
-        RunEnd::Session(SessionEnd::NotBuilt) => 11,
     }
 }
 
@@ -59,7 +58,6 @@ fn line(end: RunEnd) -> &'static [u8]
         RunEnd::Session(SessionEnd::BadRecord) => b"fss: bad record\n",
         RunEnd::NoMemory => b"fss: no memory\n",
         RunEnd::Session(SessionEnd::ManyReads) => b"fss: too many reads\n",
-        RunEnd::Session(SessionEnd::NotBuilt) => b"fss: not built\n",
     }
 }
 
@@ -85,7 +83,8 @@ fn feed<S: Source, C: Clock, K: Sink>(
     let mut room = vec![in alloc; 0u8; ROOM]?;
     let mut reply = Vec::with_capacity(alloc, LEAST_ROOM)?;
     let mut records = Records::new(alloc)?;
-    let mut tree = FirstTree { first: clock.now() };
+    let mut tree = ServedTree::new(alloc)?;
+    tree.begin(clock.now());
     Ok(session(
         alloc,
         &Exports { fsid: FSID },

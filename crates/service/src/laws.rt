@@ -6,8 +6,12 @@ ghost use Rattle.service.specs.declared.session.SessionEnd.{SessionEnd};
 ghost use Rattle.service.specs.declared.session.SessionEnd.TheVariants.{WriteFault};
 ghost use Rattle.service.specs.Turns.{Turn, contents, memories, moments_of, tree_behind};
 ghost use Rattle.service.specs.Session.{EndsAs, IsByText, IsFront};
+ghost use Rattle.service.specs.Served.{answering, fsid, made_at};
+ghost use Rattle.fs_sound.specs.Links.{IsSound};
+ghost use Rattle.nfs3_types.specs.declared.moment.Moment.{Moment};
 
 use crate::tree::Tree;
+use fs_sound::{calls_keep_trees_sound, first_tree_is_sound};
 
 /// What was read determines what was answered. Two sessions on one text, both of which could write, served
 /// the same records, on whatever trees; and where the text alone ended both, they ended alike. Where they
@@ -28,3 +32,11 @@ pub fn one_reading<T: Tree>()
         → EndsAs T.answering fsid tree WriteFault text r b → EndsAs T.answering fsid tree other text s c → other ≢ WriteFault
         → IsFront (moments_of fsid r) (moments_of fsid s) → IsFront (memories r) (memories s) → IsFront b c }
 {}
+
+/// Whatever turns were answered, the tree behind them is sound.
+pub fn trees_stay_sound()
+    ensures { (first : Moment) (turns : List Turn) → IsSound (tree_behind answering fsid (made_at first) turns) }
+{
+    first_tree_is_sound();
+    calls_keep_trees_sound();
+}

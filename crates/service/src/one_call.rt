@@ -1,19 +1,19 @@
 //! Answering one record.
 
-ghost use Rattle.std.specs.Prelude.{◌≡◌, ◌≤◌, ◌%◌, [], length, IsTrue, Some, IfOk, OnOk, OnErr, IfErr, vec_capacity};
+ghost use Rattle.std.specs.Prelude.{◌≡◌, ◌≤◌, ◌%◌, [], length, IfOk, OnOk, OnErr, IfErr, vec_capacity};
 ghost use Rattle.nfs3_res.specs.Spelled.{IsSpelled};
 ghost use Rattle.rpc_msg.specs.Auth.{words_in};
+ghost use Rattle.rpc_route.specs.Immediate.{Bad, immediate_reply};
 ghost use Rattle.rpc_route.specs.Sealing.{sealed};
 ghost use Rattle.rpc_route.specs.Routing.{caller_of};
-ghost use Rattle.service.specs.Turns.{no_reply, cred_of};
+ghost use Rattle.service.specs.Turns.{cred_of};
 ghost use Rattle.service.specs.Steps.{TakesTurn, TakesCall, MovesOrStays};
 
-use crate::no_reply::NoReply;
 use crate::tree::Tree;
 use mount3::Exports;
 use nfs3_types::{Call, Cred, Moment, NoMemory, Reply, own_call};
 use outside::Clock;
-use rpc_msg::{Who, own_cred};
+use rpc_msg::{HeadFault, Who, own_cred};
 use rpc_route::{RouteFault, Routed, route, seal, seal_system};
 use std::alloc::Global;
 
@@ -36,7 +36,6 @@ fn ask<T: Tree>(
     call: &Call<'_>,
     moment: Moment,
 ) -> Result<Reply, NoMemory>
-    requires built { IsTrue (T.answering.is_built call.now) }
     requires whole { length who.now.gids.now % 4 ≡ 0 }
     ensures ok { IfOk result (λ reply. reply ≡ T.answering.answer (T.plain tree.old) (cred_of (caller_of who.now)) call.now moment) }
     ensures spelled { IfOk result (λ reply. IsSpelled reply) }
@@ -48,7 +47,7 @@ fn ask<T: Tree>(
     tree.answer(alloc, &cred, &own, moment)
 }
 
-/// Answers a call that is built, where memory suffices.
+/// Answers a call, where memory suffices.
 fn try_call<T: Tree>(
     alloc: Global,
     tree: &mut T,
@@ -58,7 +57,6 @@ fn try_call<T: Tree>(
     moment: Moment,
     out: &mut Vec<u8>,
 ) -> Result<(), NoMemory>
-    requires built { IsTrue (T.answering.is_built call.now) }
     requires whole { length who.now.gids.now % 4 ≡ 0 }
     requires empty { out.old.items ≡ [] }
     ensures reply { OnOk result (out.new.items ≡ sealed xid (T.answering.answer (T.plain tree.old) (cred_of (caller_of who.now)) call.now moment)) }
@@ -71,8 +69,8 @@ fn try_call<T: Tree>(
     seal(xid, &reply, out)
 }
 
-/// Answers a call that is built, or says that memory ran out.
-fn answer_built<T: Tree>(
+/// Answers a call, or says that memory ran out.
+fn answer_call<T: Tree>(
     alloc: Global,
     tree: &mut T,
     xid: u32,
@@ -81,7 +79,6 @@ fn answer_built<T: Tree>(
     moment: Moment,
     out: &mut Vec<u8>,
 )
-    requires built { IsTrue (T.answering.is_built call.now) }
     requires whole { length who.now.gids.now % 4 ≡ 0 }
     requires empty { out.old.items ≡ [] }
     requires room { LEAST_ROOM ≤ vec_capacity out.old }
@@ -94,8 +91,8 @@ fn answer_built<T: Tree>(
     };
 }
 
-/// Answers a record into `out`, where it has a reply. A call that needs the tree takes a moment of the
-/// clock first. Where memory lacks for the reply, it is the one that says so.
+/// Answers a record into `out`, unless it is no call. One that needs the tree takes a moment of the clock
+/// first. Where memory lacks for the reply, it is the one that says so.
 pub fn answer_record<T: Tree, C: Clock>(
     alloc: Global,
     exports: &Exports,
@@ -103,10 +100,10 @@ pub fn answer_record<T: Tree, C: Clock>(
     content: &[u8],
     clock: &mut C,
     out: &mut Vec<u8>,
-) -> Result<(), NoReply>
+) -> Result<(), HeadFault>
     requires { LEAST_ROOM ≤ vec_capacity out.old }
     ensures ok { OnOk result (TakesTurn T.answering exports.now.fsid C.given C.to_come (T.plain tree.old) (T.plain tree.new) clock.old clock.new content.now out.new.items) }
-    ensures err { IfErr result (λ why. no_reply T.answering.is_built exports.now.fsid content.now ≡ Some why) }
+    ensures err { IfErr result (λ fault. immediate_reply exports.now.fsid content.now ≡ Bad fault) }
     ensures same_tree { OnErr result (T.plain tree.new ≡ T.plain tree.old) }
     ensures no_moment { OnErr result (clock.new ≡ clock.old) }
     ensures capacity { vec_capacity out.old ≤ vec_capacity out.new }
@@ -115,14 +112,11 @@ pub fn answer_record<T: Tree, C: Clock>(
     match route(content, exports, out) {
         Ok(Routed::Ready) => Ok(()),
         Ok(Routed::Nfs { xid, who, call }) => {
-            if !T::is_built(&call) {
-                return Err(NoReply::NotBuilt);
-            }
             let moment = clock.now();
-            answer_built(alloc, tree, xid, &who, &call, moment, out);
+            answer_call(alloc, tree, xid, &who, &call, moment, out);
             Ok(())
         }
-        Err(RouteFault::BadRecord(_)) => Err(NoReply::BadRecord),
+        Err(RouteFault::BadRecord(fault)) => Err(fault),
         Err(RouteFault::NoMemory(starved)) => {
             seal_system(starved, out);
             Ok(())

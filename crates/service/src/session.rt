@@ -6,7 +6,6 @@ ghost use Rattle.service.specs.SessionRuns.{SessionRuns};
 ghost use Rattle.service.specs.Steps.{end_of};
 
 use crate::answering::{Stop, answer_piece};
-use crate::no_reply::NoReply;
 use crate::one_call::LEAST_ROOM;
 use crate::tree::Tree;
 use mount3::Exports;
@@ -37,8 +36,6 @@ pub enum SessionEnd {
     BadRecord,
     /// 2^48 takes gave a byte.
     ManyReads,
-    /// A record is a call that is not built.
-    NotBuilt,
 }
 
 /// How a session ended where its answering stopped.
@@ -47,8 +44,7 @@ fn end_of(stop: Stop) -> SessionEnd
 {
     match stop {
         Stop::TooLong => SessionEnd::TooLong,
-        Stop::NoReply(NoReply::BadRecord) => SessionEnd::BadRecord,
-        Stop::NoReply(NoReply::NotBuilt) => SessionEnd::NotBuilt,
+        Stop::BadRecord => SessionEnd::BadRecord,
         Stop::WriteFault => SessionEnd::WriteFault,
     }
 }

@@ -1,7 +1,7 @@
 ghost use Rattle.std.specs.Prelude.{◌≤◌};
 
 use super::*;
-use crate::first_tree::FirstTree;
+use crate::served_tree::ServedTree;
 use outside::{Calm, ListClock, MemSink, MemSource, Moment, Text};
 use std::alloc::Global;
 use std::process::Abort;
@@ -25,11 +25,21 @@ const NO_CALL: [u8; 44] = [
     0, 0, 0, 0, 0, 0, 0, 0, 0, 0, 0, 0, 0, 0, 0, 0,
 ];
 
-/// FSINFO of the root, xid 2.
+/// FSINFO of the root, xid 257.
 const FSINFO_CALL: [u8; 72] = [
-    0x80, 0, 0, 0x44, 0, 0, 0, 2, 0, 0, 0, 0, 0, 0, 0, 2, 0, 1, 0x86, 0xa3, 0, 0, 0, 3, 0, 0, 0,
+    0x80, 0, 0, 0x44, 0, 0, 1, 1, 0, 0, 0, 0, 0, 0, 0, 2, 0, 1, 0x86, 0xa3, 0, 0, 0, 3, 0, 0, 0,
     19, 0, 0, 0, 0, 0, 0, 0, 0, 0, 0, 0, 0, 0, 0, 0, 0, 0, 0, 0, 0x18, 0, 0, 0, 1, 0, 0, 0, 0, 0,
     0, 0, 0, 0, 0, 0, 0, 0, 0, 0, 0, 0, 0, 0, 1,
+];
+
+/// What it tells of the tree as it was made at the moment (1000, 5).
+const FSINFO_REPLY: [u8; 168] = [
+    0x80, 0, 0, 0xa4, 0, 0, 1, 1, 0, 0, 0, 1, 0, 0, 0, 0, 0, 0, 0, 0, 0, 0, 0, 0, 0, 0, 0, 0, 0, 0,
+    0, 0, 0, 0, 0, 1, 0, 0, 0, 2, 0, 0, 1, 0xed, 0, 0, 0, 2, 0, 0, 0, 0, 0, 0, 0, 0, 0, 0, 0, 0, 0,
+    0, 0x10, 0, 0, 0, 0, 0, 0, 0, 0x10, 0, 0, 0, 0, 0, 0, 0, 0, 0, 0, 0, 0, 1, 0, 0, 0, 0, 0, 0, 0,
+    0, 0, 0, 0, 1, 0, 0, 3, 0xe8, 0, 0, 0, 5, 0, 0, 3, 0xe8, 0, 0, 0, 5, 0, 0, 3, 0xe8, 0, 0, 0, 5,
+    0, 0, 0x80, 0, 0, 0, 0x80, 0, 0, 0, 0x10, 0, 0, 0, 0x80, 0, 0, 0, 0x80, 0, 0, 0, 0x10, 0, 0, 0,
+    0x80, 0, 0, 0, 1, 0, 0, 0, 0, 0, 0, 0, 0, 0, 0, 0, 0, 1, 0, 0, 0, 0x1b,
 ];
 
 /// The denial of xid 1 for its verifier (AUTH_BADVERF).
@@ -73,8 +83,6 @@ const CUT: &str = "fss: input ended inside a record\n";
 const LONG: &str = "fss: record too long\n";
 
 const BAD: &str = "fss: bad record\n";
-
-const UNBUILT: &str = "fss: not built\n";
 
 const USAGE: &str =
     "fss: usage: fss feed [STORES REPLICAS] | fss work NUMBER CALLS [STORES REPLICAS LOST ROUGH] | fss serve ADDRESS WORKERS CONNECTIONS STORES REPLICAS\n";
@@ -150,6 +158,7 @@ fn records_are_answered_in_any_pieces(rt: HostRuntime) -> Result<(), Fail> {
     let info = FSINFO_CALL.as_slice();
     let done = NULL_REPLY.as_slice();
     let attributes = GETATTR_REPLY.as_slice();
+    let told = FSINFO_REPLY.as_slice();
     for (input, replies, status, line) in [
         ([none, none, none], [none, none, none], 0, ""),
         ([null, none, none], [done, none, none], 0, ""),
@@ -165,9 +174,9 @@ fn records_are_answered_in_any_pieces(rt: HostRuntime) -> Result<(), Fail> {
             CUT,
         ),
         ([&[0], &NULL_CALL[1..], none], [none, none, none], 4, CUT),
-        // a verifier that does not read, a call that is not built, and a message that is no call
+        // a verifier that does not read, calls of the tree, and a message that is no call
         ([null, verified, null], [done, denied, done], 0, ""),
-        ([root, info, root], [attributes, none, none], 11, UNBUILT),
+        ([root, info, root], [attributes, told, attributes], 0, ""),
         ([null, no_call, null], [done, none, none], 6, BAD),
     ] {
         for cut in [1, 4096] {
@@ -258,6 +267,6 @@ fn faults_and_words_have_their_statuses(rt: HostRuntime) -> Result<(), Fail> {
             &rt, alloc, words, null, 4096, source, sink, status, written, line,
         )?;
     }
-    one_reading::<FirstTree>();
+    one_reading::<ServedTree>();
     Ok(())
 }

@@ -1,4 +1,4 @@
-use Rattle.service.proofs.AnswerSteps.{whole-none, whole-no_reply, whole-write_fault, whole-one}
+use Rattle.service.proofs.AnswerSteps.{whole-none, whole-no_call, whole-write_fault, whole-one}
 use Rattle.service.proofs.answering.answer_whole.Goals as goal
 
 pub returns-in_default-clause-ok : goal.returns-in_default-clause-ok
@@ -7,7 +7,7 @@ returns-in_default-clause-ok g c =
 
 pub returns-in-Err-clause-err : goal.returns-in-Err-clause-err
 returns-in-Err-clause-err g c more =
-    whole-no_reply g.T.Tree.answering c.args.exports.now.fsid g.C.Clock.given g.C.Clock.to_come g.K.Sink.written (g.T.Tree.plain c.args.tree.now) (g.T.Tree.plain c.answer_record.new.tree) c.args.clock.now c.answer_record.new.clock c.args.output.now c.args.records.now c.in-Some.content.now more c.in-Err.fault c.in-Some.ensures.whole c.in-Err.ensures.err c.in-Err.ensures.same_tree c.in-Err.ensures.no_moment
+    whole-no_call g.T.Tree.answering c.args.exports.now.fsid g.C.Clock.given g.C.Clock.to_come g.K.Sink.written (g.T.Tree.plain c.args.tree.now) (g.T.Tree.plain c.answer_record.new.tree) c.args.clock.now c.answer_record.new.clock c.args.output.now c.args.records.now c.in-Some.content.now more c.in-Err.field-0 c.in-Some.ensures.whole c.in-Err.ensures.err c.in-Err.ensures.same_tree c.in-Err.ensures.no_moment
 
 pub returns-in_default-put_all-clause-err : goal.returns-in_default-put_all-clause-err
 returns-in_default-put_all-clause-err g c more =

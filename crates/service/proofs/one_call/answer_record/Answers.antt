@@ -1,31 +1,26 @@
-use Rattle.std.proofs.Common.{ℕ, List, [], ◌++◌, sym, ◌∙◌, ap}
+use Rattle.std.proofs.Common.{rules, ℕ, List, [], ◌++◌, ◌∙◌, ap}
 use Rattle.rpc_msg.specs.Replies.{accepted_record}
 use Rattle.rpc_route.specs.Immediate.{immediate_reply}
 use Rattle.rpc_route.specs.Routing.{caller_of}
-use Rattle.service.proofs.TakenSteps.{needs_is, has_reply, is_bad, lacks_memory, turn-replied, turn-starved, turn-taken, none-bad, none-not_built}
+use Rattle.service.proofs.TakenSteps.{needs_is, has_reply, is_bad, lacks_memory, turn-replied, turn-starved, turn-taken}
 use Rattle.service.proofs.one_call.answer_record.Goals as goal
-
-pub returns-then-not-is_built-clause-err : goal.returns-then-not-is_built-clause-err
-returns-then-not-is_built-clause-err g c =
-    let n = c.in-Ok-Nfs in
-    let is = needs_is (immediate_reply c.args.exports.now.fsid c.args.content.now) c.args.content.now c.clear.new.self.items c.route.new.out.items n.field-0 n.xid n.who n.call n.ensures.routes n.field-0-is in
-    none-not_built g.T.Tree.answering.is_built c.args.exports.now.fsid c.args.content.now n.xid (caller_of n.who) n.call is (sym c.is_built.ensures ∙ c.if-not-is_built.true)
 
 pub returns-in-Ok-Ready-clause-ok : goal.returns-in-Ok-Ready-clause-ok
 returns-in-Ok-Ready-clause-ok g c =
     let r = has_reply (immediate_reply c.args.exports.now.fsid c.args.content.now) c.args.content.now c.clear.new.self.items c.route.new.out.items c.in-Ok-Ready.field-0 c.in-Ok-Ready.ensures.routes c.in-Ok-Ready.field-0-is in
     turn-replied g.T.Tree.answering c.args.exports.now.fsid g.C.Clock.given g.C.Clock.to_come (g.T.Tree.plain c.args.tree.now) c.args.clock.now c.args.content.now r.reply c.route.new.out.items r.is (r.gained ∙ ap (λ xs. xs ++ r.reply) c.clear.ensures.items)
 
-pub returns-else-not-is_built-clause-ok : goal.returns-else-not-is_built-clause-ok
-returns-else-not-is_built-clause-ok g c =
+pub returns-in-Ok-Nfs-clause-ok : goal.returns-in-Ok-Nfs-clause-ok
+returns-in-Ok-Nfs-clause-ok g c =
     let n = c.in-Ok-Nfs in
     let is = needs_is (immediate_reply c.args.exports.now.fsid c.args.content.now) c.args.content.now c.clear.new.self.items c.route.new.out.items n.field-0 n.xid n.who n.call n.ensures.routes n.field-0-is in
-    turn-taken g.T.Tree.answering c.args.exports.now.fsid g.C.Clock.given g.C.Clock.to_come (g.T.Tree.plain c.args.tree.now) (g.T.Tree.plain c.answer_built.new.tree) c.args.clock.now c.now-moment.new.self c.args.content.now c.answer_built.new.out.items n.xid (caller_of n.who) n.call c.now-moment.result is (sym c.is_built.ensures ∙ c.if-not-is_built.false) c.now-moment.ensures c.answer_built.ensures.taken
+    turn-taken g.T.Tree.answering c.args.exports.now.fsid g.C.Clock.given g.C.Clock.to_come (g.T.Tree.plain c.args.tree.now) (g.T.Tree.plain c.answer_call.new.tree) c.args.clock.now c.now-moment.new.self c.args.content.now c.answer_call.new.out.items n.xid (caller_of n.who) n.call c.now-moment.result is c.now-moment.ensures c.answer_call.ensures.taken
 
 pub returns-in-Err-BadRecord-clause-err : goal.returns-in-Err-BadRecord-clause-err
 returns-in-Err-BadRecord-clause-err g c =
     let b = c.in-Err-BadRecord in
-    none-bad g.T.Tree.answering.is_built c.args.exports.now.fsid c.args.content.now b.field-0-0 (is_bad (immediate_reply c.args.exports.now.fsid c.args.content.now) c.args.content.now c.clear.new.self.items c.route.new.out.items b.field-0 b.field-0-0 b.ensures.routes b.field-0-is)
+    let bad = is_bad (immediate_reply c.args.exports.now.fsid c.args.content.now) c.args.content.now c.clear.new.self.items c.route.new.out.items b.field-0 b.fault b.ensures.routes b.field-0-is in
+    search (rules, bad, b.fault-is)
 
 pub returns-in-Err-NoMemory-clause-ok : goal.returns-in-Err-NoMemory-clause-ok
 returns-in-Err-NoMemory-clause-ok g c =

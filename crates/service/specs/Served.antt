@@ -1,7 +1,6 @@
--- The plain tree as the first tree that the service answers on, of which GETATTR alone is built.
-use Rattle.std.specs.Prelude.{ℕ, ◌^◌, ◌==◌, List, [], ◌∷◌}
+-- The tree that the service answers on: the answer table, in one lane.
+use Rattle.std.specs.Prelude.{ℕ, ◌^◌, List, [], ◌∷◌}
 use Rattle.nfs3_types.specs.declared.moment.Moment.{Moment}
-use Rattle.nfs3_types.specs.Calls.{procedure_of}
 use Rattle.fs_rules.specs.Tree.{Tree, first_tree}
 use Rattle.fs_rules.specs.Answers.{answer, after}
 use Rattle.service.specs.Turns.{Answering}
@@ -18,10 +17,13 @@ verifier = 102 ∷ 115 ∷ 115 ∷ 0 ∷ 0 ∷ 0 ∷ 0 ∷ 1 ∷ []
 abbrev pub made_at : Moment → Tree
 made_at first = first_tree fsid verifier first
 
--- the answer table, in the first lane; of its calls GETATTR, procedure 1, is built
+-- the tree before it begins at the clock's first moment: its times say nothing
+abbrev pub not_begun : Tree
+not_begun = made_at (record { seconds = 0; nanos = 0 })
+
+-- the answer table, in the first lane
 unfoldable pub answering : Answering Tree
 answering = record {
-  is_built = λ lent. procedure_of lent == 1;
   answer = λ tree cred lent now. answer tree (record { cred = cred; call = lent; now = now; lane = 0 });
   after = λ tree cred lent now. after tree (record { cred = cred; call = lent; now = now; lane = 0 });
 }
