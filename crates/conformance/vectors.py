@@ -15,17 +15,6 @@ import sys
 
 # The vectors that are not run, by the reason.
 LEFT_OUT = {
-    "needs the tree": [
-        "first-mount-and-file",
-        "exclusive-create",
-        "end-of-a-file",
-        "cut-and-growth",
-        "renames",
-        "readdir-by-pages",
-        "snapshot",
-        "auth-none",
-        "guards-and-dot-snapshot",
-    ],
     "shapes are not read yet: words behind `feed` are a faulty command line, status 1": [
         "bad-shape-17-stores",
         "bad-shape-4-replicas",
