@@ -1,9 +1,14 @@
 """Times `fss feed` and its yardstick on NULL records through pipes, and prints records a second of each,
 their ratio, and the program's greatest memory. Called by `run`."""
+import pathlib
 import subprocess
 import sys
 import threading
 import time
+
+sys.path.insert(0, str(pathlib.Path(__file__).resolve().parents[1]))
+
+import memory
 
 NULL = bytes.fromhex("80000028 00000001 00000000 00000002 000186a3 00000003" + " 00000000" * 5)
 REPLY = bytes.fromhex("80000018 00000001 00000001" + " 00000000" * 4)
@@ -40,19 +45,17 @@ def seconds(command, records):
     return spent
 
 
-def memory(command, records):
-    """The greatest memory of one run, in KiB, by a process of its own."""
-    code = (
-        "import resource,subprocess,sys;"
-        "subprocess.run(sys.argv[2:],stdin=open('/dev/stdin','rb'),stdout=subprocess.DEVNULL,check=True);"
-        "print(resource.getrusage(resource.RUSAGE_CHILDREN).ru_maxrss)"
-    )
-    feeder = subprocess.Popen([sys.executable, "-c", code, "x", *command], stdin=subprocess.PIPE, stdout=subprocess.PIPE)
+def most_memory(command, records):
+    """The greatest memory of one run, in KiB."""
+    process = subprocess.Popen(command, stdin=subprocess.PIPE, stdout=subprocess.DEVNULL)
     chunk = NULL * 1000
     for _ in range(records // 1000):
-        feeder.stdin.write(chunk)
-    feeder.stdin.close()
-    return int(feeder.stdout.read())
+        process.stdin.write(chunk)
+    most = memory.greatest(process.pid)
+    process.stdin.close()
+    if process.wait() != 0:
+        sys.exit(f"{command}: status {process.returncode}")
+    return most
 
 
 def main():
@@ -65,7 +68,7 @@ def main():
     for name, spent in best.items():
         print(f"{name}: {records / spent:,.0f} records a second")
     print(f"ratio: {best['yardstick'] / best['fss']:.2f}")
-    few, all_of_them = memory([program, "feed"], records // 10), memory([program, "feed"], records)
+    few, all_of_them = most_memory([program, "feed"], records // 10), most_memory([program, "feed"], records)
     print(f"memory: {few} KiB for {records // 10:,} records, {all_of_them} KiB for {records:,}")
 
 

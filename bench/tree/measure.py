@@ -1,14 +1,15 @@
 """Feeds streams of mixed calls to `fss feed`, and prints calls a second, the greatest memory, and how both grow from
 some calls to four times as many. Called by `run`."""
-import os
 import pathlib
 import random
 import subprocess
 import sys
 import time
 
-sys.path.insert(0, str(pathlib.Path(__file__).resolve().parents[2] / "examples"))
+TOP = pathlib.Path(__file__).resolve().parents[2]
+sys.path[:0] = [str(TOP / "examples"), str(TOP / "bench")]
 
+import memory
 import nfs3
 
 # How often each kind of call comes, of a hundred.
@@ -93,12 +94,14 @@ def run(program, stream, replies):
     with open(stream, "rb") as source, open(replies, "wb") as sink:
         began = time.perf_counter()
         process = subprocess.Popen([program, "feed"], stdin=source, stdout=sink)
-        _, status, usage = os.wait4(process.pid, 0)
+        greatest = 0
+        while process.poll() is None:
+            greatest = memory.greatest(process.pid, greatest)
+            time.sleep(0.001)
         spent = time.perf_counter() - began
-    process.returncode = os.waitstatus_to_exitcode(status)
     if process.returncode != 0:
         sys.exit(f"status {process.returncode}")
-    return spent, usage.ru_maxrss
+    return spent, greatest
 
 
 def look(replies, calls):
@@ -119,11 +122,11 @@ def measure(program, folder, number, calls, rounds):
     write_stream(stream, number, calls)
     results = [run(program, stream, replies) for _ in range(rounds)]
     look(replies, calls)
-    spent, memory = min(spent for spent, _ in results), max(memory for _, memory in results)
-    print(f"{calls:,} calls: {calls / spent:,.0f} calls a second, {memory:,} KiB")
+    spent, most = min(spent for spent, _ in results), max(most for _, most in results)
+    print(f"{calls:,} calls: {calls / spent:,.0f} calls a second, {most:,} KiB")
     stream.unlink()
     replies.unlink()
-    return spent, memory
+    return spent, most
 
 
 def main():
