@@ -3,6 +3,14 @@
 //! It promises that each part is the text's own bytes at the place, with no copy and no memory, that
 //! the place moves past each part, and that nothing moves where too few bytes are left.
 //! It stands on no other crate.
+//!
+//! ```
+//! let mut cursor = Cursor::new(text);
+//! let mark = cursor.part(4)?;
+//! let content = cursor.part(cursor.left())?;
+//! assert_eq!(cursor.place(), text.len());
+//! assert_eq!(cursor.part(1), None);
+//! ```
 #![tactic(auto)]
 
 ghost use Rattle.std.specs.Prelude.{◌≡◌, ◌+◌, ◌-◌, ◌<◌, ◌≤◌, ◌↔◌, length, take, drop, IsNone, IfSome, OnSome, IfNone};
@@ -65,21 +73,5 @@ impl<'a> Cursor<'a> {
         ensures within { self.now.place ≤ length self.now.text }
     {
         self.place
-    }
-}
-
-#[cfg(test)]
-mod tests {
-    use super::*;
-
-    #[test]
-    fn parts_come_in_order_and_a_refusal_moves_nothing(rt: HostRuntime) {
-        let mut cursor = Cursor::new(b"abcde");
-        assert_eq!(rt; cursor.part(2), Some(b"ab".as_slice()));
-        assert_eq!(rt; cursor.part(4), None);
-        assert_eq!(rt; (cursor.place(), cursor.left()), (2, 3));
-        assert_eq!(rt; cursor.part(3), Some(b"cde".as_slice()));
-        assert_eq!(rt; cursor.part(0), Some(b"".as_slice()));
-        assert_eq!(rt; cursor.part(1), None);
     }
 }

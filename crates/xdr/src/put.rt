@@ -1,6 +1,7 @@
 //! Writing items at the end of a buffer.
 
 ghost use Rattle.std.specs.Prelude.{◌≡◌, ℕ, ◌+◌, ◌<◌, ◌≤◌, ◌^◌, ◌++◌, length, vec_len, vec_capacity, OnOk, OnErr, IsOk};
+ghost use Rattle.xdr_grammar.specs.Writing.{Puts};
 ghost use Rattle.xdr_grammar.specs.Items.{word, hyper, truth, fixed, opaque};
 ghost use Rattle.xdr_grammar.specs.Items.{padding as padding_of};
 
@@ -10,11 +11,8 @@ use nfs3_types::NoMemory;
 /// Adds a word.
 #[tactic(auto, unfolding(xdr_grammar::specs::Items::word))]
 pub fn put_word(out: &mut Vec<u8>, v: u32) -> Result<(), NoMemory>
-    ensures ok { OnOk result (out.new.items ≡ out.old.items ++ word.spelling v) }
-    ensures len { OnOk result (vec_len out.new ≡ vec_len out.old + 4) }
+    ensures puts { Puts word v out.old out.new result }
     ensures err { OnErr result (out.new.items ≡ out.old.items) }
-    ensures room { vec_len out.old + 4 ≤ vec_capacity out.old → IsOk result }
-    ensures capacity { vec_capacity out.old ≤ vec_capacity out.new }
 {
     out.extend_from_slice(&v.to_be_bytes())?;
     Ok(())
@@ -23,11 +21,8 @@ pub fn put_word(out: &mut Vec<u8>, v: u32) -> Result<(), NoMemory>
 /// Adds a hyper.
 #[tactic(auto, unfolding(xdr_grammar::specs::Items::hyper))]
 pub fn put_hyper(out: &mut Vec<u8>, v: u64) -> Result<(), NoMemory>
-    ensures ok { OnOk result (out.new.items ≡ out.old.items ++ hyper.spelling v) }
-    ensures len { OnOk result (vec_len out.new ≡ vec_len out.old + 8) }
+    ensures puts { Puts hyper v out.old out.new result }
     ensures err { OnErr result (out.new.items ≡ out.old.items) }
-    ensures room { vec_len out.old + 8 ≤ vec_capacity out.old → IsOk result }
-    ensures capacity { vec_capacity out.old ≤ vec_capacity out.new }
 {
     out.extend_from_slice(&v.to_be_bytes())?;
     Ok(())
@@ -36,11 +31,8 @@ pub fn put_hyper(out: &mut Vec<u8>, v: u64) -> Result<(), NoMemory>
 /// Adds a boolean: the word 0 or 1.
 #[tactic(auto, unfolding(xdr_grammar::specs::Items::truth))]
 pub fn put_truth(out: &mut Vec<u8>, v: bool) -> Result<(), NoMemory>
-    ensures ok { OnOk result (out.new.items ≡ out.old.items ++ truth.spelling v) }
-    ensures len { OnOk result (vec_len out.new ≡ vec_len out.old + 4) }
+    ensures puts { Puts truth v out.old out.new result }
     ensures err { OnErr result (out.new.items ≡ out.old.items) }
-    ensures room { vec_len out.old + 4 ≤ vec_capacity out.old → IsOk result }
-    ensures capacity { vec_capacity out.old ≤ vec_capacity out.new }
 {
     put_word(out, u32::from(v))
 }
@@ -48,13 +40,8 @@ pub fn put_truth(out: &mut Vec<u8>, v: bool) -> Result<(), NoMemory>
 /// Adds fixed-length opaque data, and zeros as its padding.
 #[tactic(auto, unfolding(xdr_grammar::specs::Items::fixed))]
 pub fn put_fixed(out: &mut Vec<u8>, part: &[u8]) -> Result<(), NoMemory>
-    ensures ok { OnOk result (out.new.items ≡ out.old.items ++ (fixed (length part.now)).spelling part.now) }
-    ensures len { OnOk result (
-        vec_len out.new ≡ vec_len out.old + (length part.now + padding_of (length part.now))) }
+    ensures puts { Puts (fixed (length part.now)) part.now out.old out.new result }
     ensures err { OnErr result (out.new.items ≡ out.old.items) }
-    ensures room { vec_len out.old + (length part.now + padding_of (length part.now)) ≤ vec_capacity out.old
-        → IsOk result }
-    ensures capacity { vec_capacity out.old ≤ vec_capacity out.new }
 {
     let zeros = zeros(part.len());
     out.reserve(part.len() + zeros.len())?;
@@ -67,15 +54,8 @@ pub fn put_fixed(out: &mut Vec<u8>, part: &[u8]) -> Result<(), NoMemory>
 #[tactic(auto, unfolding(xdr_grammar::specs::Items::opaque))]
 pub fn put_opaque(out: &mut Vec<u8>, part: &[u8]) -> Result<(), NoMemory>
     requires { length part.now < 2 ^ 32 }
-    ensures ok { OnOk result (
-        (max : ℕ) → out.new.items ≡ out.old.items ++ (opaque max).spelling part.now) }
-    ensures len { OnOk result (
-        vec_len out.new ≡ vec_len out.old + (4 + (length part.now + padding_of (length part.now)))) }
+    ensures puts { (max : ℕ) → Puts (opaque max) part.now out.old out.new result }
     ensures err { OnErr result (out.new.items ≡ out.old.items) }
-    ensures room { vec_len out.old + (4 + (length part.now + padding_of (length part.now)))
-        ≤ vec_capacity out.old
-        → IsOk result }
-    ensures capacity { vec_capacity out.old ≤ vec_capacity out.new }
 {
     out.reserve(4 + part.len() + padding(part.len()))?;
     put_word(out, part.len() as u32)?;

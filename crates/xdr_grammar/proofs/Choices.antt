@@ -3,7 +3,7 @@ use Rattle.std.proofs.Common.{◌≡◌, ℕ, Bool, true, false, List, ◌++◌,
 use Rattle.xdr_grammar.specs.declared.fault.XdrFault.{XdrFault}
 use Rattle.xdr_grammar.specs.Grammar.{Grammar, ◌at◌, done, and_then}
 use Rattle.xdr_grammar.specs.Items.{truth}
-use Rattle.xdr_grammar.specs.Choices.{either, in_case, SpellsCase, optional}
+use Rattle.xdr_grammar.specs.Choices.{either, never, in_case, SpellsCase, optional}
 use Rattle.xdr_grammar.specs.Laws.{Laws, Found, GivesBack, AllSpelled}
 use Rattle.xdr_grammar.proofs.Steps.{and_then-ok, and_then-err}
 use Rattle.xdr_grammar.proofs.Composed.{both-laws, done-laws}
@@ -12,6 +12,17 @@ use Rattle.xdr_grammar.proofs.Items.{truth-laws}
 pub either-laws : {A : Type 0} (b : Bool) (g h : Grammar A) → Laws g → Laws h → Laws (either b g h)
 either-laws true g h first second = first
 either-laws false g h first second = second
+
+pub never-laws : {A : Type 0} (refusal : XdrFault) → Laws {A = A} (never refusal)
+never-laws refusal = record {
+  found = λ bytes v rest e. absurd cc;
+  again = λ v front rest s. absurd s;
+  breaks = λ bytes fault e. cc;
+  broken = λ bytes fault b. rw b refl;
+  written = λ v f. absurd f;
+  fits = λ v front b s. absurd s;
+  sized = λ v front s. absurd s;
+}
 
 -- what was read, made into the variant
 abbrev into_case : {A B : Type 0} → (B → A) → B × List ℕ → Result (A × List ℕ) XdrFault

@@ -8,5 +8,5 @@ pub mod Whole
 pub mod Entries
 pub mod Arrays
 pub mod Rules
-pub mod Examples
 pub mod Loops
+pub mod Writing

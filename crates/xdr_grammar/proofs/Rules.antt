@@ -1,16 +1,17 @@
 -- How the laws of a structure are found: `search grammar_laws`, under `unfolding` of the structure.
--- Add the laws of the structures within it, and for each tag what it was chosen by (`Examples`). A
+-- Add the laws of the structures within it, and for each tag what it was chosen by. A
 -- long structure wants a depth: `search (grammar_laws, time-laws) depth 40`.
 use Rattle.std.proofs.Common.{◌≡◌, ℕ, ◌≤◌, Bool, true, false, ◌&&◌, List, Option, refl}
 use Rattle.std.specs.Prelude.{nat_le}
 use Rattle.std.proofs.lemmas.Bool.{leb-true}
+use Rattle.xdr_grammar.specs.declared.fault.XdrFault.{XdrFault}
 use Rattle.xdr_grammar.specs.Grammar.{Grammar, Part, ◌>>=◌, done}
 use Rattle.xdr_grammar.specs.Items.{pick}
-use Rattle.xdr_grammar.specs.Choices.{either, in_case}
+use Rattle.xdr_grammar.specs.Choices.{either, never, in_case}
 use Rattle.xdr_grammar.specs.Laws.{AllSpelled}
 use Rattle.xdr_grammar.proofs.Composed.{both-laws, done-laws}
 use Rattle.xdr_grammar.proofs.Items.{word-laws, hyper-laws, tested-laws, pick-laws, truth-laws, fixed-laws, opaque-laws}
-use Rattle.xdr_grammar.proofs.Choices.{either-laws, in_case-laws, optional-laws}
+use Rattle.xdr_grammar.proofs.Choices.{either-laws, never-laws, in_case-laws, optional-laws}
 use Rattle.xdr_grammar.proofs.Enumerations.{enumeration-laws}
 use Rattle.xdr_grammar.proofs.Entries.{entries-laws}
 use Rattle.xdr_grammar.proofs.Arrays.{items-laws, array-laws}
@@ -26,6 +27,9 @@ done-spelled v P h r bytes s = rw s.is h
 pub either-spelled : {R : Type 0} (b : Bool) (g h : Grammar R) (P : R → Type 0) → (b ≡ true → AllSpelled g P) → (b ≡ false → AllSpelled h P) → AllSpelled (either b g h) P
 either-spelled true g h P first second = first refl
 either-spelled false g h P first second = second refl
+
+pub never-spelled : {R : Type 0} (fault : XdrFault) (P : R → Type 0) → AllSpelled (never fault) P
+never-spelled fault P r bytes s = absurd s
 
 pub in_case-spelled : {A B : Type 0} (make : B → A) (content : A → Option B) (g : Grammar B) (P : A → Type 0) → ((b : B) → P (make b)) → AllSpelled (in_case make content g) P
 in_case-spelled make content g P h a bytes s = rw s.made (h s.value)
@@ -52,6 +56,7 @@ pub ruleset grammar_laws = (
   fixed-laws,
   opaque-laws,
   either-laws,
+  never-laws,
   in_case-laws,
   optional-laws,
   enumeration-laws,
@@ -61,5 +66,6 @@ pub ruleset grammar_laws = (
   both-spelled,
   done-spelled,
   either-spelled,
+  never-spelled,
   in_case-spelled,
 )

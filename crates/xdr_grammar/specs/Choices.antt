@@ -1,5 +1,6 @@
 -- Grammars among which an earlier item chooses, and optional data (RFC 4506, section 4.19).
-use Rattle.std.specs.Prelude.{◌≡◌, ℕ, Bool, true, false, List, [], Ok, Option, Some, None, is_some}
+use Rattle.std.specs.Prelude.{◌≡◌, ℕ, Bool, true, false, List, [], Ok, Err, Option, Some, None, is_some}
+use Rattle.xdr_grammar.specs.declared.fault.XdrFault.{XdrFault}
 use Rattle.xdr_grammar.specs.Grammar.{Grammar, ◌at◌, ◌>>=◌, done, and_then}
 use Rattle.xdr_grammar.specs.Items.{truth}
 
@@ -7,6 +8,17 @@ use Rattle.xdr_grammar.specs.Items.{truth}
 abbrev pub either : {A : Type 0} → Bool → Grammar A → Grammar A → Grammar A
 either true g h = g
 either false g h = h
+
+-- no value: each text has this fault
+abbrev pub never : {A : Type 0} → XdrFault → Grammar A
+never refusal = record {
+  read = λ bytes. Err refusal;
+  Spells = λ a bytes. ⊥;
+  Breaks = λ bytes fault. fault ≡ refusal;
+  Fits = λ a. ⊥;
+  spelling = λ a. [];
+  size = λ a. 0;
+}
 
 -- ---- one variant of an enumeration with content: `make` makes it, and `content` gives what is in it
 

@@ -7,4 +7,4 @@ pub mod Arrays
 pub mod Whole
 pub mod Laws
 pub mod Reading
-pub mod Examples
+pub mod Writing

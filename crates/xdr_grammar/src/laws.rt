@@ -6,13 +6,12 @@ ghost use Rattle.std.specs.Prelude.{◌≡◌, ℕ, Bool, List, Option};
 ghost use Rattle.xdr_grammar.specs.declared.fault.XdrFault.{XdrFault};
 ghost use Rattle.xdr_grammar.specs.Grammar.{Grammar, Part, ◌>>=◌ as ◌then◌, done};
 ghost use Rattle.xdr_grammar.specs.Items.{word, hyper, truth, pick, tested, fixed, opaque};
-ghost use Rattle.xdr_grammar.specs.Choices.{either, in_case, optional};
+ghost use Rattle.xdr_grammar.specs.Choices.{either, never, in_case, optional};
 ghost use Rattle.xdr_grammar.specs.Enumerations.{enumeration};
 ghost use Rattle.xdr_grammar.specs.Entries.{entries};
 ghost use Rattle.xdr_grammar.specs.Arrays.{items, array};
 ghost use Rattle.xdr_grammar.specs.Whole.{WholeLaws};
 ghost use Rattle.xdr_grammar.specs.Laws.{Laws, Keeps, GivesBack, IsUnambiguous, IsReadBack, TakesSize};
-ghost use Rattle.xdr_grammar.specs.Examples.{time, set_time, optional_handle};
 
 /// A grammar of values of type `V` that has the laws: what is claimed for a `G: Lawful<V>` is claimed
 /// for each such grammar.
@@ -83,6 +82,11 @@ pub fn either_is_lawful<V, G: Lawful<V>, H: Lawful<V>>()
     ensures { (test : Bool) → Laws (either test G.grammar H.grammar) }
 {}
 
+/// A grammar that spells nothing.
+pub fn never_is_lawful<V>()
+    ensures { (fault : XdrFault) → Laws {A = V} (never fault) }
+{}
+
 /// One variant of an enumeration with content.
 pub fn case_is_lawful<V, B, G: Lawful<B>>()
     ensures { (make : B → V) (content : V → Option B) → GivesBack make content
@@ -123,11 +127,4 @@ pub fn what_is_read_takes_its_size<V, G: Lawful<V>>()
 /// A text that is read to its end.
 pub fn whole_texts_are_lawful<V, G: Lawful<V>>()
     ensures { WholeLaws G.grammar }
-{}
-
-/// Structures that are composed inherit the laws: three of RFC 1813.
-pub fn examples_are_lawful()
-    ensures time { Laws time }
-    ensures set_time { Laws set_time }
-    ensures optional_handle { Laws optional_handle }
 {}

@@ -11,5 +11,3 @@ mod fault;
 pub use fault::XdrFault;
 
 pub mod laws;
-#[cfg(test)]
-mod tests;
