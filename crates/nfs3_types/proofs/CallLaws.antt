@@ -7,8 +7,11 @@ use Rattle.xdr_grammar.specs.Laws.{Laws, AllSpelled}
 use Rattle.xdr_grammar.proofs.Rules.{grammar_laws, picked}
 use Rattle.nfs3_types.specs.declared.file_type.FileType.{FileType}
 use Rattle.nfs3_types.specs.declared.file_type.FileType.TheVariants.{Reg, Dir, Blk, Chr, Lnk, Sock, Fifo}
+use Rattle.nfs3_types.specs.declared.procedure.Procedure.{Procedure}
+use Rattle.nfs3_types.specs.declared.procedure.Procedure.TheVariants.{Null, GetAttr, SetAttr, Lookup, Access, ReadLink, Read, Write, Create, Mkdir, Symlink, Mknod, Remove, Rmdir, Rename, Link, ReadDir, ReadDirPlus, FsStat, FsInfo, PathConf, Commit}
+use Rattle.nfs3_types.specs.Procedures.{procedure_at}
 use Rattle.nfs3_types.specs.Stability.{stable_how}
-use Rattle.nfs3_types.specs.Calls.{what_type, of_type, text, verifier, dir_op, set_attr_args, access_args, file_range, write_args, create_how, create_args, mkdir_args, symlink_args, device_data, mknod_data, mknod_args, rename_args, link_args, read_dir_args, read_dir_plus_args, call_of}
+use Rattle.nfs3_types.specs.Calls.{what_type, of_type, text, verifier, dir_op, set_attr_args, access_args, file_range, write_args, create_how, create_args, mkdir_args, symlink_args, device_data, mknod_data, mknod_args, rename_args, link_args, read_dir_args, read_dir_plus_args, arguments, call_of}
 use Rattle.nfs3_types.proofs.HandleLaws.{file_handle-laws}
 use Rattle.nfs3_types.proofs.AttributeLaws.{file_type-laws, spec_data-laws, optional_time-laws, sattr-laws}
 
@@ -119,6 +122,31 @@ read_dir_plus_args-laws : Laws read_dir_plus_args
 unfolding read_dir_plus_args
 read_dir_plus_args-laws = search (grammar_laws, file_handle-laws, verifier-laws) depth 40
 
-pub call_of-laws : (procedure : ℕ) → Laws (call_of procedure)
+arguments-laws : (p : Procedure) → Laws (arguments p)
+unfolding arguments
+arguments-laws Null = search grammar_laws
+arguments-laws GetAttr = search (grammar_laws, file_handle-laws)
+arguments-laws SetAttr = search (grammar_laws, set_attr_args-laws)
+arguments-laws Lookup = search (grammar_laws, dir_op-laws)
+arguments-laws Access = search (grammar_laws, access_args-laws)
+arguments-laws ReadLink = search (grammar_laws, file_handle-laws)
+arguments-laws Read = search (grammar_laws, file_range-laws)
+arguments-laws Write = search (grammar_laws, write_args-laws)
+arguments-laws Create = search (grammar_laws, create_args-laws)
+arguments-laws Mkdir = search (grammar_laws, mkdir_args-laws)
+arguments-laws Symlink = search (grammar_laws, symlink_args-laws)
+arguments-laws Mknod = search (grammar_laws, mknod_args-laws)
+arguments-laws Remove = search (grammar_laws, dir_op-laws)
+arguments-laws Rmdir = search (grammar_laws, dir_op-laws)
+arguments-laws Rename = search (grammar_laws, rename_args-laws)
+arguments-laws Link = search (grammar_laws, link_args-laws)
+arguments-laws ReadDir = search (grammar_laws, read_dir_args-laws)
+arguments-laws ReadDirPlus = search (grammar_laws, read_dir_plus_args-laws)
+arguments-laws FsStat = search (grammar_laws, file_handle-laws)
+arguments-laws FsInfo = search (grammar_laws, file_handle-laws)
+arguments-laws PathConf = search (grammar_laws, file_handle-laws)
+arguments-laws Commit = search (grammar_laws, file_range-laws)
+
+pub call_of-laws : (n : ℕ) → Laws (call_of n)
 unfolding call_of
-call_of-laws procedure = search (grammar_laws, file_handle-laws, set_attr_args-laws, dir_op-laws, access_args-laws, file_range-laws, write_args-laws, create_args-laws, mkdir_args-laws, symlink_args-laws, mknod_args-laws, rename_args-laws, link_args-laws, read_dir_args-laws, read_dir_plus_args-laws) depth 60
+call_of-laws n = arguments-laws (procedure_at n)

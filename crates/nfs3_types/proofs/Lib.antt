@@ -1,3 +1,5 @@
+pub mod ProcedureLaws
+pub mod CountLaws
 pub mod HandleLaws
 pub mod AttributeLaws
 pub mod CallLaws

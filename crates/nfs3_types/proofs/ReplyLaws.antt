@@ -2,10 +2,14 @@
 use Rattle.std.proofs.Common.{◌≡◌, ℕ, true, refl}
 use Rattle.xdr_grammar.specs.Laws.{Laws}
 use Rattle.xdr_grammar.proofs.Rules.{grammar_laws}
+use Rattle.nfs3_types.specs.declared.procedure.Procedure.{Procedure}
+use Rattle.nfs3_types.specs.declared.procedure.Procedure.TheVariants.{Null, GetAttr, SetAttr, Lookup, Access, ReadLink, Read, Write, Create, Mkdir, Symlink, Mknod, Remove, Rmdir, Rename, Link, ReadDir, ReadDirPlus, FsStat, FsInfo, PathConf, Commit}
 use Rattle.nfs3_types.specs.declared.status.Status.{Status}
 use Rattle.nfs3_types.specs.declared.status.Status.TheVariants.{Ok as StatusOk}
+use Rattle.nfs3_types.specs.Procedures.{procedure_at}
 use Rattle.nfs3_types.specs.Statuses.{status}
-use Rattle.nfs3_types.specs.Replies.{lookup_ok, access_ok, read_link_ok, read_ok, write_ok, create_ok, rename_ok, link_ok, dir_entry, read_dir_ok, dir_entry_plus, read_dir_plus_ok, fs_stat_ok, fs_info_ok, path_conf_ok, commit_ok, ok_body, refusal, is_ok, result_with_status, result_of}
+use Rattle.nfs3_types.specs.Replies.{lookup_ok, access_ok, read_link_ok, read_ok, write_ok, create_ok, rename_ok, link_ok, dir_entry, read_dir_ok, dir_entry_plus, read_dir_plus_ok, fs_stat_ok, fs_info_ok, path_conf_ok, commit_ok, ok_body, Telling, told, is_ok, result_with_status, result, result_of}
+use Rattle.nfs3_types.specs.Replies.Telling.{Nought, Attributes, BeforeAndAfter, OfRename, OfLink}
 use Rattle.nfs3_types.proofs.HandleLaws.{file_handle-laws, post_op_handle-laws}
 use Rattle.nfs3_types.proofs.AttributeLaws.{time-laws, fattr-laws, post_op_attr-laws, wcc_data-laws}
 use Rattle.nfs3_types.proofs.CallLaws.{text-laws, verifier-laws, stable_how-laws}
@@ -78,23 +82,52 @@ commit_ok-laws : Laws commit_ok
 unfolding commit_ok
 commit_ok-laws = search (grammar_laws, wcc_data-laws, verifier-laws) depth 60
 
-ok_body-laws : (procedure : ℕ) → Laws (ok_body procedure)
+ok_body-laws : (p : Procedure) → Laws (ok_body p)
 unfolding ok_body
-ok_body-laws procedure = search (grammar_laws, fattr-laws, wcc_data-laws, lookup_ok-laws, access_ok-laws, read_link_ok-laws, read_ok-laws, write_ok-laws, create_ok-laws, rename_ok-laws, link_ok-laws, read_dir_ok-laws, read_dir_plus_ok-laws, fs_stat_ok-laws, fs_info_ok-laws, path_conf_ok-laws, commit_ok-laws) depth 60
+ok_body-laws Null = search grammar_laws
+ok_body-laws GetAttr = search (grammar_laws, fattr-laws)
+ok_body-laws SetAttr = search (grammar_laws, wcc_data-laws)
+ok_body-laws Lookup = search (grammar_laws, lookup_ok-laws)
+ok_body-laws Access = search (grammar_laws, access_ok-laws)
+ok_body-laws ReadLink = search (grammar_laws, read_link_ok-laws)
+ok_body-laws Read = search (grammar_laws, read_ok-laws)
+ok_body-laws Write = search (grammar_laws, write_ok-laws)
+ok_body-laws Create = search (grammar_laws, create_ok-laws)
+ok_body-laws Mkdir = search (grammar_laws, create_ok-laws)
+ok_body-laws Symlink = search (grammar_laws, create_ok-laws)
+ok_body-laws Mknod = search grammar_laws
+ok_body-laws Remove = search (grammar_laws, wcc_data-laws)
+ok_body-laws Rmdir = search (grammar_laws, wcc_data-laws)
+ok_body-laws Rename = search (grammar_laws, rename_ok-laws)
+ok_body-laws Link = search (grammar_laws, link_ok-laws)
+ok_body-laws ReadDir = search (grammar_laws, read_dir_ok-laws)
+ok_body-laws ReadDirPlus = search (grammar_laws, read_dir_plus_ok-laws)
+ok_body-laws FsStat = search (grammar_laws, fs_stat_ok-laws)
+ok_body-laws FsInfo = search (grammar_laws, fs_info_ok-laws)
+ok_body-laws PathConf = search (grammar_laws, path_conf_ok-laws)
+ok_body-laws Commit = search (grammar_laws, commit_ok-laws)
 
-refusal-laws : (procedure : ℕ) → Laws (refusal procedure)
-unfolding refusal
-refusal-laws procedure = search (grammar_laws, post_op_attr-laws, wcc_data-laws, rename_ok-laws, link_ok-laws) depth 20
+told-laws : (t : Telling) → Laws (told t)
+unfolding told
+told-laws Nought = search grammar_laws
+told-laws Attributes = search (grammar_laws, post_op_attr-laws)
+told-laws BeforeAndAfter = search (grammar_laws, wcc_data-laws)
+told-laws OfRename = search (grammar_laws, rename_ok-laws)
+told-laws OfLink = search (grammar_laws, link_ok-laws)
 
--- the status of a success
+-- the status of a ok_body
 ok_is : (s : Status) → is_ok s ≡ true → StatusOk ≡ s
 ok_is StatusOk h = refl
 ok_is _ h = absurd cc
 
-result_with_status-laws : (procedure : ℕ) → Laws (result_with_status procedure)
+result_with_status-laws : (p : Procedure) → Laws (result_with_status p)
 unfolding result_with_status
-result_with_status-laws procedure = search (grammar_laws, status-laws, ok_body-laws, refusal-laws, ok_is) depth 20
+result_with_status-laws p = search (grammar_laws, status-laws, ok_body-laws, told-laws, ok_is) depth 20
 
-pub result_of-laws : (procedure : ℕ) → Laws (result_of procedure)
+result-laws : (p : Procedure) → Laws (result p)
+unfolding result
+result-laws p = search (grammar_laws, result_with_status-laws)
+
+pub result_of-laws : (n : ℕ) → Laws (result_of n)
 unfolding result_of
-result_of-laws procedure = search (grammar_laws, result_with_status-laws)
+result_of-laws n = result-laws (procedure_at n)

@@ -1,8 +1,10 @@
 -- What calls take (RFC 1813, section 3.3).
-use Rattle.std.specs.Prelude.{ℕ, ◌-◌, ◌^◌, ◌==◌, ◌||◌, Bool, true, false, List, Option, Some, None}
+use Rattle.std.specs.Prelude.{ℕ, ◌-◌, ◌^◌, ◌==◌, List, Option, Some, None}
 use Rattle.xdr_grammar.specs.Grammar.{Grammar, ◌at◌, ◌>>=◌, done}
-use Rattle.xdr_grammar.specs.Items.{word, hyper, pick, fixed, opaque, string}
+use Rattle.xdr_grammar.specs.Items.{word, hyper, pick, fixed, string}
 use Rattle.xdr_grammar.specs.Choices.{either, in_case}
+use Rattle.nfs3_types.specs.declared.procedure.Procedure.{Procedure}
+use Rattle.nfs3_types.specs.declared.procedure.Procedure.TheVariants as procedures
 use Rattle.nfs3_types.specs.declared.args.AccessArgs.{AccessArgs}
 use Rattle.nfs3_types.specs.declared.args.CreateArgs.{CreateArgs}
 use Rattle.nfs3_types.specs.declared.args.CreateHow.{CreateHow}
@@ -27,7 +29,8 @@ use Rattle.nfs3_types.specs.declared.call.CallOver.TheVariants.{Null, GetAttr, S
 use Rattle.nfs3_types.specs.declared.file_type.FileType.{FileType}
 use Rattle.nfs3_types.specs.declared.file_type.FileType.TheVariants.{Reg, Dir, Lnk}
 use Rattle.nfs3_types.specs.declared.file_type.FileType.TheVariants.{Chr as TypeChr, Blk as TypeBlk, Sock as TypeSock, Fifo as TypeFifo}
-use Rattle.nfs3_types.specs.FileTypes.{type_number, file_type}
+use Rattle.nfs3_types.specs.FileTypes.{file_type}
+use Rattle.nfs3_types.specs.Procedures.{procedure_number, procedure_at}
 use Rattle.nfs3_types.specs.Stability.{stable_how}
 use Rattle.nfs3_types.specs.Handles.{file_handle}
 use Rattle.nfs3_types.specs.Attributes.{spec_data, optional_time, sattr}
@@ -221,29 +224,33 @@ read_dir_plus_args = do
 abbrev pub Call : Type 0
 Call = CallOver (List ℕ)
 
+-- the procedure that is called
+abbrev pub called : {B : Type 0} → CallOver B → Procedure
+called Null = procedures.Null
+called (GetAttr _) = procedures.GetAttr
+called (SetAttr _) = procedures.SetAttr
+called (Lookup _) = procedures.Lookup
+called (Access _) = procedures.Access
+called (ReadLink _) = procedures.ReadLink
+called (Read _) = procedures.Read
+called (Write _) = procedures.Write
+called (Create _) = procedures.Create
+called (Mkdir _) = procedures.Mkdir
+called (Symlink _) = procedures.Symlink
+called (Mknod _) = procedures.Mknod
+called (Remove _) = procedures.Remove
+called (Rmdir _) = procedures.Rmdir
+called (Rename _) = procedures.Rename
+called (Link _) = procedures.Link
+called (ReadDir _) = procedures.ReadDir
+called (ReadDirPlus _) = procedures.ReadDirPlus
+called (FsStat _) = procedures.FsStat
+called (FsInfo _) = procedures.FsInfo
+called (PathConf _) = procedures.PathConf
+called (Commit _) = procedures.Commit
+
 abbrev pub procedure_of : {B : Type 0} → CallOver B → ℕ
-procedure_of Null = 0
-procedure_of (GetAttr a) = 1
-procedure_of (SetAttr a) = 2
-procedure_of (Lookup a) = 3
-procedure_of (Access a) = 4
-procedure_of (ReadLink a) = 5
-procedure_of (Read a) = 6
-procedure_of (Write a) = 7
-procedure_of (Create a) = 8
-procedure_of (Mkdir a) = 9
-procedure_of (Symlink a) = 10
-procedure_of (Mknod a) = 11
-procedure_of (Remove a) = 12
-procedure_of (Rmdir a) = 13
-procedure_of (Rename a) = 14
-procedure_of (Link a) = 15
-procedure_of (ReadDir a) = 16
-procedure_of (ReadDirPlus a) = 17
-procedure_of (FsStat a) = 18
-procedure_of (FsInfo a) = 19
-procedure_of (PathConf a) = 20
-procedure_of (Commit a) = 21
+procedure_of call = procedure_number (called call)
 
 -- what is in each variant
 
@@ -331,28 +338,31 @@ abbrev pub commit_in : Call → Option (FileRange (List ℕ))
 commit_in (Commit a) = Some a
 commit_in _ = None
 
--- the call of a procedure, by the procedure's number: NULL, and what is no procedure, take nothing
+-- the call of a procedure: NULL takes nothing
+unfoldable pub arguments : Procedure → Grammar Call
+arguments procedures.Null = done Null
+arguments procedures.GetAttr = in_case GetAttr get_attr_in file_handle
+arguments procedures.SetAttr = in_case SetAttr set_attr_in set_attr_args
+arguments procedures.Lookup = in_case Lookup lookup_in dir_op
+arguments procedures.Access = in_case Access access_in access_args
+arguments procedures.ReadLink = in_case ReadLink read_link_in file_handle
+arguments procedures.Read = in_case Read read_in file_range
+arguments procedures.Write = in_case Write write_in write_args
+arguments procedures.Create = in_case Create create_in create_args
+arguments procedures.Mkdir = in_case Mkdir mkdir_in mkdir_args
+arguments procedures.Symlink = in_case Symlink symlink_in symlink_args
+arguments procedures.Mknod = in_case Mknod mknod_in mknod_args
+arguments procedures.Remove = in_case Remove remove_in dir_op
+arguments procedures.Rmdir = in_case Rmdir rmdir_in dir_op
+arguments procedures.Rename = in_case Rename rename_in rename_args
+arguments procedures.Link = in_case Link link_in link_args
+arguments procedures.ReadDir = in_case ReadDir read_dir_in read_dir_args
+arguments procedures.ReadDirPlus = in_case ReadDirPlus read_dir_plus_in read_dir_plus_args
+arguments procedures.FsStat = in_case FsStat fs_stat_in file_handle
+arguments procedures.FsInfo = in_case FsInfo fs_info_in file_handle
+arguments procedures.PathConf = in_case PathConf path_conf_in file_handle
+arguments procedures.Commit = in_case Commit commit_in file_range
+
+-- the same by the procedure's number: what is no procedure takes nothing
 unfoldable pub call_of : ℕ → Grammar Call
-call_of procedure =
-    either (procedure == 1) (in_case GetAttr get_attr_in file_handle)
-    (either (procedure == 2) (in_case SetAttr set_attr_in set_attr_args)
-    (either (procedure == 3) (in_case Lookup lookup_in dir_op)
-    (either (procedure == 4) (in_case Access access_in access_args)
-    (either (procedure == 5) (in_case ReadLink read_link_in file_handle)
-    (either (procedure == 6) (in_case Read read_in file_range)
-    (either (procedure == 7) (in_case Write write_in write_args)
-    (either (procedure == 8) (in_case Create create_in create_args)
-    (either (procedure == 9) (in_case Mkdir mkdir_in mkdir_args)
-    (either (procedure == 10) (in_case Symlink symlink_in symlink_args)
-    (either (procedure == 11) (in_case Mknod mknod_in mknod_args)
-    (either (procedure == 12) (in_case Remove remove_in dir_op)
-    (either (procedure == 13) (in_case Rmdir rmdir_in dir_op)
-    (either (procedure == 14) (in_case Rename rename_in rename_args)
-    (either (procedure == 15) (in_case Link link_in link_args)
-    (either (procedure == 16) (in_case ReadDir read_dir_in read_dir_args)
-    (either (procedure == 17) (in_case ReadDirPlus read_dir_plus_in read_dir_plus_args)
-    (either (procedure == 18) (in_case FsStat fs_stat_in file_handle)
-    (either (procedure == 19) (in_case FsInfo fs_info_in file_handle)
-    (either (procedure == 20) (in_case PathConf path_conf_in file_handle)
-    (either (procedure == 21) (in_case Commit commit_in file_range)
-    (done Null)))))))))))))))))))))
+call_of n = arguments (procedure_at n)

@@ -1,7 +1,9 @@
+pub mod Count
 pub mod Statuses
 pub mod FileTypes
 pub mod Stability
 pub mod Handles
+pub mod Procedures
 pub mod Attributes
 pub mod Calls
 pub mod Replies

@@ -1,8 +1,9 @@
 -- What results say (RFC 1813, section 3.3).
-use Rattle.std.specs.Prelude.{ℕ, ◌==◌, ◌||◌, if◌then◌else◌, Bool, true, false, List, Option, Some, None}
+use Rattle.std.specs.Prelude.{ℕ, ◌==◌, if◌then◌else◌, Bool, Option, Some, None}
+use Rattle.xdr_grammar.specs.declared.fault.XdrFault.TheVariants.{BadEnum}
 use Rattle.xdr_grammar.specs.Grammar.{Grammar, ◌at◌, ◌>>=◌, done}
 use Rattle.xdr_grammar.specs.Items.{word, hyper, truth}
-use Rattle.xdr_grammar.specs.Choices.{either, in_case}
+use Rattle.xdr_grammar.specs.Choices.{either, never, in_case}
 use Rattle.xdr_grammar.specs.Entries.{entries}
 use Rattle.nfs3_types.specs.declared.attributes.Fattr.{Fattr}
 use Rattle.nfs3_types.specs.declared.attributes.Wcc.{Wcc}
@@ -23,11 +24,14 @@ use Rattle.nfs3_types.specs.declared.body.FsInfoOk.{FsInfoOk}
 use Rattle.nfs3_types.specs.declared.body.PathConfOk.{PathConfOk}
 use Rattle.nfs3_types.specs.declared.body.CommitOk.{CommitOk}
 use Rattle.nfs3_types.specs.declared.body.Body.{Body}
-use Rattle.nfs3_types.specs.declared.body.Body.TheVariants.{Null, GetAttr, SetAttr, Lookup, Access, ReadLink, Read, Write, Create, Mkdir, Symlink, Mknod, Remove, Rmdir, Rename, Link, ReadDir, ReadDirPlus, FsStat, FsInfo, PathConf, Commit, Nothing}
+use Rattle.nfs3_types.specs.declared.body.Body.TheVariants.{Null, GetAttr, SetAttr, Lookup, Access, ReadLink, Read, Write, Create, Mkdir, Symlink, Remove, Rmdir, Rename, Link, ReadDir, ReadDirPlus, FsStat, FsInfo, PathConf, Commit, Nothing}
+use Rattle.nfs3_types.specs.declared.procedure.Procedure.{Procedure}
+use Rattle.nfs3_types.specs.declared.procedure.Procedure.TheVariants as procedures
 use Rattle.nfs3_types.specs.declared.reply.Reply.{Reply}
 use Rattle.nfs3_types.specs.declared.status.Status.{Status}
 use Rattle.nfs3_types.specs.declared.status.Status.TheVariants.{Ok as StatusOk}
 use Rattle.nfs3_types.specs.Statuses.{status_number, status}
+use Rattle.nfs3_types.specs.Procedures.{procedure_at, has_status}
 use Rattle.nfs3_types.specs.Stability.{stable_how}
 use Rattle.nfs3_types.specs.Handles.{post_op_handle, file_handle}
 use Rattle.nfs3_types.specs.Attributes.{time, fattr, post_op_attr, wcc_data}
@@ -75,7 +79,7 @@ write_ok = do
   verifier ← verifier at (λ r. r.verifier)
   done (record { file = file; count = count; committed = committed; verifier = verifier })
 
--- CREATE, MKDIR, SYMLINK and MKNOD (3.3.8 to 3.3.11)
+-- CREATE, MKDIR and SYMLINK (3.3.8 to 3.3.10)
 unfoldable pub create_ok : Grammar CreateOk
 create_ok = do
   object ← post_op_handle at (λ r. r.object)
@@ -223,10 +227,6 @@ abbrev pub symlink_in : Body → Option CreateOk
 symlink_in (Symlink ok) = Some ok
 symlink_in _ = None
 
-abbrev pub mknod_in : Body → Option CreateOk
-mknod_in (Mknod ok) = Some ok
-mknod_in _ = None
-
 abbrev pub remove_in : Body → Option Wcc
 remove_in (Remove ok) = Some ok
 remove_in _ = None
@@ -267,31 +267,56 @@ abbrev pub commit_in : Body → Option CommitOk
 commit_in (Commit ok) = Some ok
 commit_in _ = None
 
--- what a result of status OK says, by the procedure's number: NULL, and what is no procedure, say nothing
-unfoldable pub ok_body : ℕ → Grammar Body
-ok_body procedure =
-    either (procedure == 1) (in_case GetAttr get_attr_in fattr)
-    (either (procedure == 2) (in_case SetAttr set_attr_in wcc_data)
-    (either (procedure == 3) (in_case Lookup lookup_in lookup_ok)
-    (either (procedure == 4) (in_case Access access_in access_ok)
-    (either (procedure == 5) (in_case ReadLink read_link_in read_link_ok)
-    (either (procedure == 6) (in_case Read read_in read_ok)
-    (either (procedure == 7) (in_case Write write_in write_ok)
-    (either (procedure == 8) (in_case Create create_in create_ok)
-    (either (procedure == 9) (in_case Mkdir mkdir_in create_ok)
-    (either (procedure == 10) (in_case Symlink symlink_in create_ok)
-    (either (procedure == 11) (in_case Mknod mknod_in create_ok)
-    (either (procedure == 12) (in_case Remove remove_in wcc_data)
-    (either (procedure == 13) (in_case Rmdir rmdir_in wcc_data)
-    (either (procedure == 14) (in_case Rename rename_in rename_ok)
-    (either (procedure == 15) (in_case Link link_in link_ok)
-    (either (procedure == 16) (in_case ReadDir read_dir_in read_dir_ok)
-    (either (procedure == 17) (in_case ReadDirPlus read_dir_plus_in read_dir_plus_ok)
-    (either (procedure == 18) (in_case FsStat fs_stat_in fs_stat_ok)
-    (either (procedure == 19) (in_case FsInfo fs_info_in fs_info_ok)
-    (either (procedure == 20) (in_case PathConf path_conf_in path_conf_ok)
-    (either (procedure == 21) (in_case Commit commit_in commit_ok)
-    (done Null)))))))))))))))))))))
+-- what a result of status OK says. NULL's says nothing. MKNOD never succeeds here: OK is no status of its
+-- result, so that a text that says so has a number that its enumeration lacks.
+unfoldable pub ok_body : Procedure → Grammar Body
+ok_body procedures.Null = done Null
+ok_body procedures.GetAttr = in_case GetAttr get_attr_in fattr
+ok_body procedures.SetAttr = in_case SetAttr set_attr_in wcc_data
+ok_body procedures.Lookup = in_case Lookup lookup_in lookup_ok
+ok_body procedures.Access = in_case Access access_in access_ok
+ok_body procedures.ReadLink = in_case ReadLink read_link_in read_link_ok
+ok_body procedures.Read = in_case Read read_in read_ok
+ok_body procedures.Write = in_case Write write_in write_ok
+ok_body procedures.Create = in_case Create create_in create_ok
+ok_body procedures.Mkdir = in_case Mkdir mkdir_in create_ok
+ok_body procedures.Symlink = in_case Symlink symlink_in create_ok
+ok_body procedures.Mknod = never BadEnum
+ok_body procedures.Remove = in_case Remove remove_in wcc_data
+ok_body procedures.Rmdir = in_case Rmdir rmdir_in wcc_data
+ok_body procedures.Rename = in_case Rename rename_in rename_ok
+ok_body procedures.Link = in_case Link link_in link_ok
+ok_body procedures.ReadDir = in_case ReadDir read_dir_in read_dir_ok
+ok_body procedures.ReadDirPlus = in_case ReadDirPlus read_dir_plus_in read_dir_plus_ok
+ok_body procedures.FsStat = in_case FsStat fs_stat_in fs_stat_ok
+ok_body procedures.FsInfo = in_case FsInfo fs_info_in fs_info_ok
+ok_body procedures.PathConf = in_case PathConf path_conf_in path_conf_ok
+ok_body procedures.Commit = in_case Commit commit_in commit_ok
+
+-- the procedure whose result of status OK this is
+abbrev pub said_by : Body → Procedure
+said_by Null = procedures.Null
+said_by Nothing = procedures.Null
+said_by (GetAttr _) = procedures.GetAttr
+said_by (SetAttr _) = procedures.SetAttr
+said_by (Lookup _) = procedures.Lookup
+said_by (Access _) = procedures.Access
+said_by (ReadLink _) = procedures.ReadLink
+said_by (Read _) = procedures.Read
+said_by (Write _) = procedures.Write
+said_by (Create _) = procedures.Create
+said_by (Mkdir _) = procedures.Mkdir
+said_by (Symlink _) = procedures.Symlink
+said_by (Remove _) = procedures.Remove
+said_by (Rmdir _) = procedures.Rmdir
+said_by (Rename _) = procedures.Rename
+said_by (Link _) = procedures.Link
+said_by (ReadDir _) = procedures.ReadDir
+said_by (ReadDirPlus _) = procedures.ReadDirPlus
+said_by (FsStat _) = procedures.FsStat
+said_by (FsInfo _) = procedures.FsInfo
+said_by (PathConf _) = procedures.PathConf
+said_by (Commit _) = procedures.Commit
 
 -- ---- results of any other status
 
@@ -324,22 +349,48 @@ abbrev pub link_change_in : Refusal → Option LinkOk
 link_change_in (LinkChange l) = Some l
 link_change_in _ = None
 
--- GETATTR says nothing
-abbrev pub is_silent : ℕ → Bool
-is_silent procedure = procedure == 1
+-- what a failure tells besides its status
+pub data Telling : Type 0 where
+  Nought : Telling
+  Attributes : Telling
+  BeforeAndAfter : Telling
+  OfRename : Telling
+  OfLink : Telling
 
--- SETATTR, WRITE, CREATE, MKDIR, SYMLINK, MKNOD, REMOVE, RMDIR and COMMIT tell a change
-abbrev pub tells_change : ℕ → Bool
-tells_change procedure = (procedure == 2) || ((procedure == 7) || ((procedure == 8) || ((procedure == 9) || ((procedure == 10) || ((procedure == 11) || ((procedure == 12) || ((procedure == 13) || (procedure == 21))))))))
+abbrev pub telling : Procedure → Telling
+telling procedures.Null = Nought
+telling procedures.GetAttr = Nought
+telling procedures.SetAttr = BeforeAndAfter
+telling procedures.Lookup = Attributes
+telling procedures.Access = Attributes
+telling procedures.ReadLink = Attributes
+telling procedures.Read = Attributes
+telling procedures.Write = BeforeAndAfter
+telling procedures.Create = BeforeAndAfter
+telling procedures.Mkdir = BeforeAndAfter
+telling procedures.Symlink = BeforeAndAfter
+telling procedures.Mknod = BeforeAndAfter
+telling procedures.Remove = BeforeAndAfter
+telling procedures.Rmdir = BeforeAndAfter
+telling procedures.Rename = OfRename
+telling procedures.Link = OfLink
+telling procedures.ReadDir = Attributes
+telling procedures.ReadDirPlus = Attributes
+telling procedures.FsStat = Attributes
+telling procedures.FsInfo = Attributes
+telling procedures.PathConf = Attributes
+telling procedures.Commit = BeforeAndAfter
 
--- LOOKUP, ACCESS, READLINK, READ, READDIR, READDIRPLUS, FSSTAT, FSINFO and PATHCONF tell attributes
-unfoldable pub refusal : ℕ → Grammar Refusal
-refusal procedure =
-    either (is_silent procedure) (done Silent)
-    (either (tells_change procedure) (in_case Change change_in wcc_data)
-    (either (procedure == 14) (in_case RenameChange rename_change_in rename_ok)
-    (either (procedure == 15) (in_case LinkChange link_change_in link_ok)
-    (in_case Object object_in post_op_attr))))
+unfoldable pub told : Telling → Grammar Refusal
+told Nought = done Silent
+told Attributes = in_case Object object_in post_op_attr
+told BeforeAndAfter = in_case Change change_in wcc_data
+told OfRename = in_case RenameChange rename_change_in rename_ok
+told OfLink = in_case LinkChange link_change_in link_ok
+
+-- what a result of any other status says
+abbrev pub refusal : Procedure → Grammar Refusal
+refusal p = told (telling p)
 
 -- ---- a result
 
@@ -362,29 +413,36 @@ abbrev pub failure_in : Outcome → Option Refusal
 failure_in (Failure s r) = Some r
 failure_in _ = None
 
--- the result of a procedure but NULL, by the procedure's number
-unfoldable pub result_with_status : ℕ → Grammar Outcome
-result_with_status procedure = do
+-- the result of a procedure that has a status
+unfoldable pub result_with_status : Procedure → Grammar Outcome
+result_with_status p = do
   s ← status at status_in
-  either (is_ok s) (in_case Success success_in (ok_body procedure)) (in_case (Failure s) failure_in (refusal procedure))
+  either (is_ok s) (in_case Success success_in (ok_body p)) (in_case (Failure s) failure_in (refusal p))
 
 -- the result of any procedure: NULL's has no status and says nothing
+unfoldable pub result : Procedure → Grammar Outcome
+result p = either (has_status p) (result_with_status p) (done (Success Null))
+
+-- the same by the procedure's number: that of what is no procedure says nothing
 unfoldable pub result_of : ℕ → Grammar Outcome
-result_of procedure = either (procedure == 0) (done (Success Null)) (result_with_status procedure)
+result_of n = result (procedure_at n)
 
 -- ---- a reply and its result
 
+-- no attributes
+abbrev pub absent : Wcc
+absent = record { before = None; after = None }
+
 -- what is said where each optional item is absent
+abbrev pub nothing_in : Telling → Refusal
+nothing_in Nought = Silent
+nothing_in Attributes = Object None
+nothing_in BeforeAndAfter = Change absent
+nothing_in OfRename = RenameChange (record { from = absent; to = absent })
+nothing_in OfLink = LinkChange (record { attributes = None; directory = absent })
+
 abbrev pub nothing_told : ℕ → Refusal
-nothing_told procedure =
-    if is_silent procedure then Silent
-    else (if tells_change procedure then Change absent
-    else (if procedure == 14 then RenameChange (record { from = absent; to = absent })
-    else (if procedure == 15 then LinkChange (record { attributes = None; directory = absent })
-    else Object None)))
-  where
-    absent : Wcc
-    absent = record { before = None; after = None }
+nothing_told n = nothing_in (telling (procedure_at n))
 
 -- the result that a reply is written as
 abbrev pub outcome_of : Reply → Outcome

@@ -61,7 +61,7 @@ pub struct WriteOk {
     pub verifier: [u8; 8],
 }
 
-/// What was made by CREATE, MKDIR, SYMLINK or MKNOD (sections 3.3.8 to 3.3.11).
+/// What was made by CREATE, MKDIR or SYMLINK (sections 3.3.8 to 3.3.10).
 #[derive(Debug, Drop)]
 pub struct CreateOk {
     /// Its handle.
@@ -145,7 +145,7 @@ pub struct ReadDirPlusOk {
 /// How full a file system is (section 3.3.18, FSSTAT3resok).
 #[derive(Clone, Copy, Debug, PartialEq, Eq)]
 pub struct FsStatOk {
-    /// The attributes of the root.
+    /// The object's attributes.
     pub attributes: Option<Fattr>,
     /// Its size in bytes.
     pub tbytes: u64,
@@ -166,7 +166,7 @@ pub struct FsStatOk {
 /// What a file system can do (section 3.3.19, FSINFO3resok).
 #[derive(Clone, Copy, Debug, PartialEq, Eq)]
 pub struct FsInfoOk {
-    /// The attributes of the root.
+    /// The object's attributes.
     pub attributes: Option<Fattr>,
     /// The greatest size of a READ in bytes.
     pub rtmax: u32,
@@ -218,7 +218,8 @@ pub struct CommitOk {
     pub verifier: [u8; 8],
 }
 
-/// What a result of status OK says, one variant for each procedure; and `Nothing` for each other result.
+/// What a result of status OK says, one variant for each procedure but MKNOD, which never succeeds here;
+/// and `Nothing` for each other result.
 #[derive(Debug, Drop)]
 pub enum Body {
     /// NULL's result, which is empty.
@@ -243,8 +244,6 @@ pub enum Body {
     Mkdir(CreateOk),
     /// The symbolic link that was made.
     Symlink(CreateOk),
-    /// The special file that was made. This service never answers so.
-    Mknod(CreateOk),
     /// The directory's attributes before and after.
     Remove(Wcc),
     /// The directory's attributes before and after.

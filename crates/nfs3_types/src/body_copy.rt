@@ -133,7 +133,6 @@ impl Body {
             Body::Create(ok) => Body::Create(ok.copy(alloc)?),
             Body::Mkdir(ok) => Body::Mkdir(ok.copy(alloc)?),
             Body::Symlink(ok) => Body::Symlink(ok.copy(alloc)?),
-            Body::Mknod(ok) => Body::Mknod(ok.copy(alloc)?),
             Body::Remove(ok) => Body::Remove(*ok),
             Body::Rmdir(ok) => Body::Rmdir(*ok),
             Body::Rename(ok) => Body::Rename(*ok),

@@ -1,12 +1,13 @@
 //! Calls (RFC 1813, section 3.3).
 
 ghost use Rattle.std.specs.Prelude.{◌≡◌};
-ghost use Rattle.nfs3_types.specs.Calls.{procedure_of};
+ghost use Rattle.nfs3_types.specs.Calls.{called, procedure_of};
 
 use crate::args::{
     AccessArgs, CreateArgs, DirOp, FileRange, LinkArgs, MkdirArgs, MknodArgs, ReadDirArgs,
     ReadDirPlusArgs, RenameArgs, SetAttrArgs, SymlinkArgs, WriteArgs,
 };
+use crate::procedure::Procedure;
 use crate::text::Text;
 use crate::text_ref::TextRef;
 
@@ -66,33 +67,40 @@ pub type Call<'a> = CallOver<TextRef<'a>>;
 pub type OwnCall = CallOver<Text>;
 
 impl<B> CallOver<B> {
+    /// The procedure that is called.
+    pub fn called(&self) -> Procedure
+        ensures { result ≡ called self.now }
+    {
+        match self {
+            CallOver::Null => Procedure::Null,
+            CallOver::GetAttr(_) => Procedure::GetAttr,
+            CallOver::SetAttr(_) => Procedure::SetAttr,
+            CallOver::Lookup(_) => Procedure::Lookup,
+            CallOver::Access(_) => Procedure::Access,
+            CallOver::ReadLink(_) => Procedure::ReadLink,
+            CallOver::Read(_) => Procedure::Read,
+            CallOver::Write(_) => Procedure::Write,
+            CallOver::Create(_) => Procedure::Create,
+            CallOver::Mkdir(_) => Procedure::Mkdir,
+            CallOver::Symlink(_) => Procedure::Symlink,
+            CallOver::Mknod(_) => Procedure::Mknod,
+            CallOver::Remove(_) => Procedure::Remove,
+            CallOver::Rmdir(_) => Procedure::Rmdir,
+            CallOver::Rename(_) => Procedure::Rename,
+            CallOver::Link(_) => Procedure::Link,
+            CallOver::ReadDir(_) => Procedure::ReadDir,
+            CallOver::ReadDirPlus(_) => Procedure::ReadDirPlus,
+            CallOver::FsStat(_) => Procedure::FsStat,
+            CallOver::FsInfo(_) => Procedure::FsInfo,
+            CallOver::PathConf(_) => Procedure::PathConf,
+            CallOver::Commit(_) => Procedure::Commit,
+        }
+    }
+
     /// The procedure's number, at most 21.
     pub fn procedure(&self) -> u32
         ensures { result ≡ procedure_of self.now }
     {
-        match self {
-            CallOver::Null => 0,
-            CallOver::GetAttr(_) => 1,
-            CallOver::SetAttr(_) => 2,
-            CallOver::Lookup(_) => 3,
-            CallOver::Access(_) => 4,
-            CallOver::ReadLink(_) => 5,
-            CallOver::Read(_) => 6,
-            CallOver::Write(_) => 7,
-            CallOver::Create(_) => 8,
-            CallOver::Mkdir(_) => 9,
-            CallOver::Symlink(_) => 10,
-            CallOver::Mknod(_) => 11,
-            CallOver::Remove(_) => 12,
-            CallOver::Rmdir(_) => 13,
-            CallOver::Rename(_) => 14,
-            CallOver::Link(_) => 15,
-            CallOver::ReadDir(_) => 16,
-            CallOver::ReadDirPlus(_) => 17,
-            CallOver::FsStat(_) => 18,
-            CallOver::FsInfo(_) => 19,
-            CallOver::PathConf(_) => 20,
-            CallOver::Commit(_) => 21,
-        }
+        self.called().number()
     }
 }

@@ -126,8 +126,8 @@ impl CallOver<Text> {
             }),
             CallOver::ReadDir(args) => CallOver::ReadDir(lend_read_dir(args)),
             CallOver::ReadDirPlus(args) => CallOver::ReadDirPlus(lend_read_dir_plus(args)),
-            CallOver::FsStat(root) => CallOver::FsStat(root.lend()),
-            CallOver::FsInfo(root) => CallOver::FsInfo(root.lend()),
+            CallOver::FsStat(object) => CallOver::FsStat(object.lend()),
+            CallOver::FsInfo(object) => CallOver::FsInfo(object.lend()),
             CallOver::PathConf(object) => CallOver::PathConf(object.lend()),
             CallOver::Commit(range) => CallOver::Commit(lend_range(range)),
         }

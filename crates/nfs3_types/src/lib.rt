@@ -21,6 +21,7 @@ mod list_of;
 mod memory;
 mod moment;
 mod owning;
+mod procedure;
 mod reply;
 mod stable_how;
 mod status;
@@ -47,12 +48,12 @@ pub use list_of::ListOf;
 pub use memory::NoMemory;
 pub use moment::Moment;
 pub use owning::own_call;
+pub use procedure::Procedure;
 pub use reply::Reply;
 pub use stable_how::StableHow;
 pub use status::Status;
 pub use text::Text;
 pub use text_ref::TextRef;
 
+pub mod count;
 pub mod laws;
-#[cfg(test)]
-mod tests;

@@ -145,8 +145,8 @@ pub fn own_call(alloc: Global, lent: &Call<'_>) -> Result<OwnCall, NoMemory>
         }),
         CallOver::ReadDir(args) => CallOver::ReadDir(own_read_dir(alloc, args)?),
         CallOver::ReadDirPlus(args) => CallOver::ReadDirPlus(own_read_dir_plus(alloc, args)?),
-        CallOver::FsStat(root) => CallOver::FsStat(own_text(alloc, root)?),
-        CallOver::FsInfo(root) => CallOver::FsInfo(own_text(alloc, root)?),
+        CallOver::FsStat(object) => CallOver::FsStat(own_text(alloc, object)?),
+        CallOver::FsInfo(object) => CallOver::FsInfo(own_text(alloc, object)?),
         CallOver::PathConf(object) => CallOver::PathConf(own_text(alloc, object)?),
         CallOver::Commit(range) => CallOver::Commit(own_range(alloc, range)?),
     })
