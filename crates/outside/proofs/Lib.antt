@@ -2,5 +2,5 @@ pub mod Parts
 pub mod Moments
 pub mod ToldLaws
 pub mod MomentLaws
-pub mod CountLaws
+pub mod FateLaws
 pub mod Places

@@ -11,12 +11,14 @@ pub record IsNextPart (content room : List ℕ) (p n : ℕ) : Type 0 where
 length_part : (content : List ℕ) (p n : ℕ) → p + n ≤ length content → length (take n (drop p content)) ≡ n
 length_part content p n h = simp (length-take, length-drop) (omega arith)
 
-pub next_part : (content room : List ℕ) (p n : ℕ) → p + n ≤ length content → take (length (take (p + n - p) (drop p content))) room ≡ take (p + n - p) (drop p content) → IsNextPart content room p n
+pub next_part : (content room : List ℕ) (p n : ℕ) → p + n ≤ length content
+    → take (length (take (p + n - p) (drop p content))) room ≡ take (p + n - p) (drop p content) → IsNextPart content room p n
 next_part content room p n h filled =
     let less : p + n - p ≡ n = omega arith in
     let filled_n : take (length (take n (drop p content))) room ≡ take n (drop p content) = rw less at filled in
     let part : take n room ≡ take n (drop p content) = rw (length_part content p n h) at filled_n in
     record {
       before = take-add p n content ∙ ap (λ xs. take p content ++ xs) (sym part);
-      after = sym (take-append-drop n (drop p content)) ∙ ap (λ xs. xs ++ drop n (drop p content)) (sym part) ∙ ap (λ xs. take n room ++ xs) (drop-drop n p content);
+      after = sym (take-append-drop n (drop p content)) ∙ ap (λ xs. xs ++ drop n (drop p content)) (sym part) ∙
+          ap (λ xs. take n room ++ xs) (drop-drop n p content);
     }

@@ -1,11 +1,12 @@
 -- Where each count of bad fates stands, and what one more in a place does to the counts.
-use Rattle.std.proofs.Common.{◌≡◌, ◌≢◌, ℕ, ◌+◌, ◌*◌, ◌<◌, ◌≤◌, true, false, cond, List, length, get_or, set, refl, sym, ◌∙◌, ap, arith, ⊎_elim}
+use Rattle.std.proofs.Common.{◌≡◌, ◌≢◌, ℕ, ◌+◌, ◌*◌, ◌<◌, ◌≤◌, true, false, cond, List, length, get_or, set, refl, sym, ◌∙◌, ap}
+use Rattle.std.proofs.Common.{arith, ⊎_elim}
 use Rattle.std.proofs.lemmas.List.{get_or-set_same, get_or-set_other, get_or-replicate}
 use Rattle.std.proofs.lemmas.Bool.{cases_lt, cases_eq, lt-ltb, le-ltb, eq-eqb, ne_eqb}
 use Rattle.outside.specs.declared.weather.Fate.{Fate}
 use Rattle.outside.specs.declared.weather.MessageName.{MessageName}
 use Rattle.outside.specs.BadFates.{place_of, counts_at, no_counts, counted}
-use Rattle.outside.specs.Count.{one_more}
+use Rattle.nfs3_types.specs.Count.{one_more}
 use Rattle.outside.specs.Weather.{Counts, is_bad, concerns}
 
 apart : (s r : ℕ) → s < 16 → r < 5 → place_of s r ≡ s * 5 + r
@@ -67,31 +68,41 @@ concerns-ne_replica : (message : MessageName) (s r : ℕ) → message.store ≡ 
 concerns-ne_replica message s r e f = rw (eq-eqb message.store s e, ne_eqb message.replica r f) refl
 
 -- the count of a store and a replica below the limits after one more at the message's place
-exact-one : (counts : List ℕ) (message : MessageName) (s r : ℕ) → place_of message.store message.replica < length counts → s < 16 → r < 5 → counts_at (set counts (place_of message.store message.replica) (one_more (get_or counts (place_of message.store message.replica) 0))) s r ≡ cond (concerns message s r) (one_more (counts_at counts s r)) (counts_at counts s r)
+exact-one : (counts : List ℕ) (message : MessageName) (s r : ℕ) → place_of message.store message.replica < length counts
+    → s < 16 → r < 5 → counts_at (set counts (place_of message.store message.replica) (one_more (get_or counts (place_of
+    message.store message.replica) 0))) s r ≡ cond (concerns message s r) (one_more (counts_at counts s r)) (counts_at counts s r)
 exact-one counts message s r fits h k =
     let p = place_of message.store message.replica in
     let v = one_more (get_or counts p 0) in
     ⊎_elim (λ (e : place_of s r ≡ p).
     let same = place-alone message.store message.replica s r h k e in
-    count-same counts p v s r fits e ∙ sym (ap one_more (count-here counts p s r e)) ∙ sym (ap (λ b. cond b (one_more (counts_at counts s r)) (counts_at counts s r)) (concerns-eq message s r same.0 same.1)))
+    count-same counts p v s r fits e ∙ sym (ap one_more (count-here counts p s r e)) ∙
+    sym (ap (λ b. cond b (one_more (counts_at counts s r)) (counts_at counts s r)) (concerns-eq message s r same.0 same.1)))
     (λ (ne : place_of s r ≡ p → ⊥).
     count-other counts p v s r ne ∙ sym (ap (λ b. cond b (one_more (counts_at counts s r)) (counts_at counts s r)) (
     ⊎_elim (λ (e : message.store ≡ s).
-    concerns-ne_replica message s r e (λ (f : message.replica ≡ r). ne (ap (λ x. place_of x r) (sym e) ∙ ap (λ y. place_of message.store y) (sym f))))
+    concerns-ne_replica message s r e (λ (f : message.replica ≡ r). ne (ap (λ x. place_of x r) (sym e) ∙
+    ap (λ y. place_of message.store y) (sym f))))
     (λ (e : message.store ≡ s → ⊥). concerns-ne_store message s r e)
     (cases_eq message.store s))))
     (cases_eq (place_of s r) p)
 
 -- a bad fate is counted at the message's place
-pub counts-bad : (counts : List ℕ) (message : MessageName) (fate : Fate) → length counts ≡ 81 → get_or counts (place_of message.store message.replica) 0 ≤ one_more (get_or counts (place_of message.store message.replica) 0) → is_bad fate ≡ true → Counts (counts_at counts) (counts_at (set counts (place_of message.store message.replica) (one_more (get_or counts (place_of message.store message.replica) 0)))) message fate
+pub counts-bad : (counts : List ℕ) (message : MessageName) (fate : Fate) → length counts ≡ 81
+    → get_or counts (place_of message.store message.replica) 0 ≤ one_more
+    (get_or counts (place_of message.store message.replica) 0) → is_bad fate ≡ true
+    → Counts (counts_at counts) (counts_at (set counts (place_of message.store message.replica) (one_more (get_or counts
+    (place_of message.store message.replica) 0)))) message fate
 counts-bad counts message fate long small bad =
     let p = place_of message.store message.replica in
     let v = one_more (get_or counts p 0) in
     let fits : p < length counts = omega (arith, place-within message.store message.replica) in
     record {
       rose = λ _.
-          let now : counts_at (set counts p v) message.store message.replica ≡ v = count-same counts p v message.store message.replica fits refl in
-          let before : counts_at counts message.store message.replica ≡ get_or counts p 0 = count-here counts p message.store message.replica refl in
+          let now : counts_at (set counts p v) message.store message.replica ≡ v =
+          count-same counts p v message.store message.replica fits refl in
+          let before : counts_at counts message.store message.replica ≡ get_or counts p 0 =
+          count-here counts p message.store message.replica refl in
           rw (now, before) (omega arith);
       never_falls = λ s r.
           ⊎_elim (λ (e : place_of s r ≡ p).
@@ -106,17 +117,21 @@ counts-bad counts message fate long small bad =
     }
 
 -- a good fate is not counted
-pub counts-good : (counts : ℕ → ℕ → ℕ) (message : MessageName) (fate : Fate) → is_bad fate ≡ false → Counts counts counts message fate
+pub counts-good : (counts : ℕ → ℕ → ℕ) (message : MessageName) (fate : Fate) → is_bad fate ≡ false
+    → Counts counts counts message fate
 counts-good counts message fate good = record {
   rose = λ bad. cc;
   never_falls = λ s r. omega arith;
   exact = λ s r h k. rw good refl;
 }
 
-pub counted-bad : (counts : List ℕ) (message : MessageName) (fate : Fate) → is_bad fate ≡ true → counted counts message fate ≡ set counts (place_of message.store message.replica) (one_more (get_or counts (place_of message.store message.replica) 0))
+pub counted-bad : (counts : List ℕ) (message : MessageName) (fate : Fate) → is_bad fate ≡ true
+    → counted counts message fate ≡ set counts (place_of message.store message.replica)
+    (one_more (get_or counts (place_of message.store message.replica) 0))
 unfolding counted
 counted-bad counts message fate bad = rw bad refl
 
-pub counted-good : (counts : List ℕ) (message : MessageName) (fate : Fate) → is_bad fate ≡ false → counted counts message fate ≡ counts
+pub counted-good : (counts : List ℕ) (message : MessageName) (fate : Fate) → is_bad fate ≡ false
+    → counted counts message fate ≡ counts
 unfolding counted
 counted-good counts message fate good = rw good refl

@@ -1,6 +1,7 @@
-pub mod Count
 pub mod Told
 pub mod Clock
+pub mod ListClock
+pub mod Seen
 pub mod Plan
 pub mod Source
 pub mod Sink

@@ -1,5 +1,6 @@
 -- A sink that keeps its bytes in memory.
-use Rattle.std.specs.Prelude.{ℕ, List}
+use Rattle.std.specs.Prelude.{ℕ, List, Some}
+use Rattle.outside.specs.Told.{SinkTold}
 
 -- What was put, the most bytes that one call puts, whether each call from the next on fails (a byte 1)
 -- or not, and how many calls failed.
@@ -8,3 +9,7 @@ pub record MemoryOutput : Type 0 where
   pub cut : ℕ
   pub plan : List ℕ
   pub faults : ℕ
+
+-- it tells everything
+abbrev pub memory_told : SinkTold MemoryOutput
+memory_told = record { written = λ sink. Some sink.written; faults = λ sink. sink.faults }

@@ -4,8 +4,8 @@ ghost use Rattle.std.specs.Prelude.{◌≡◌, ◌+◌, ◌*◌, ◌<◌, ℕ};
 ghost use Rattle.outside.specs.BadFates.{place_of, counts_at, no_counts, counted};
 ghost use Rattle.outside.specs.Weather.{Counts};
 
-use crate::count::one_more;
 use crate::weather::{Fate, MOST_REPLICAS, MOST_STORES, MessageName};
+use nfs3_types::count::one_more;
 use std::marker::Model;
 
 /// A place for each store and replica below the limits, and one that all others share.

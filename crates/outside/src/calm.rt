@@ -1,9 +1,8 @@
 //! The calm weather.
 
-ghost use Rattle.std.specs.Prelude.{◌≡◌, ℕ, [], Some, None, true, false};
+ghost use Rattle.std.specs.Prelude.{◌≡◌, None};
 ghost use Rattle.outside.specs.declared.weather.Fate.{Fate};
-ghost use Rattle.outside.specs.declared.weather.MessageKind.{MessageKind};
-ghost use Rattle.outside.specs.Weather.{Counts, Draws};
+ghost use Rattle.outside.specs.Weather.{MetFate, MetNone, calm_told};
 
 use crate::weather::{Fate, MessageName, Weather};
 
@@ -12,15 +11,10 @@ use crate::weather::{Fate, MessageName, Weather};
 pub struct Calm;
 
 impl Weather for Calm {
-    ghost bad = { λ _ _ _. 0 };
-
-    ghost to_come = { λ _. Some [] };
-
-    ghost silent = { λ _ _ _ _. false };
+    ghost told = { calm_told };
 
     fn fate(&mut self, message: MessageName) -> Fate
-        ensures counts { Counts (λ _ _. 0) (λ _ _. 0) message result }
-        ensures told { Draws (Some []) (Some []) result }
+        ensures met { MetFate calm_told self.old self.new message result }
 
         // It delivers each message.
         ensures exact { result ≡ Fate.Deliver }
@@ -30,6 +24,7 @@ impl Weather for Calm {
     }
 
     fn stray(&mut self, held: u64) -> Option<u64>
+        ensures met { MetNone calm_told self.old self.new }
         ensures exact { result ≡ None }
     {
         let _held = held;

@@ -1,20 +1,17 @@
 //! Clocks.
 
-ghost use Rattle.std.specs.Prelude.{ℕ, List, [], ◌∷◌, Option};
-ghost use Rattle.nfs3_types.specs.declared.moment.Moment.{Moment};
-ghost use Rattle.outside.specs.Clock.{GaveMoments};
+ghost use Rattle.std.specs.Prelude.{[], ◌∷◌};
+ghost use Rattle.outside.specs.Clock.{ClockTold, GaveMoments};
 
 use nfs3_types::Moment;
 
 /// A clock. It never fails.
 pub trait Clock {
-    /// The moments that it gave so far, where the clock tells them, the first of them first.
-    ghost given: { Self → Option (List Moment) };
-
-    /// The k-th moment to come, where the clock tells it.
-    ghost to_come: { Self → Option (ℕ → Moment) };
+    /// What it tells, where it does: the moments that it gave so far, the first of them first, and the
+    /// k-th moment to come.
+    ghost told: { ClockTold Self };
 
     /// The moment that it is now: the first one to come.
     fn now(&mut self) -> Moment
-        ensures { GaveMoments given to_come self.old self.new (result ∷ []) };
+        ensures { GaveMoments told self.old self.new (result ∷ []) };
 }

@@ -11,7 +11,6 @@
 mod bad_fates;
 mod calm;
 mod clock;
-mod count;
 mod failed;
 mod laws;
 mod list_clock;
@@ -24,6 +23,7 @@ mod sink;
 mod source;
 mod std_sink;
 mod std_source;
+mod takes;
 mod wall_clock;
 mod weather;
 
@@ -43,6 +43,3 @@ pub use std_sink::StdSink;
 pub use std_source::StdSource;
 pub use wall_clock::WallClock;
 pub use weather::{Fate, MOST_REPLICAS, MOST_STORES, MessageKind, MessageName, Weather};
-
-#[cfg(test)]
-mod tests;

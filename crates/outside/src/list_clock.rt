@@ -1,8 +1,9 @@
 //! A clock in memory.
 
 ghost use Rattle.std.specs.Prelude.{◌≡◌, ◌<◌, ◌^◌, [], ◌∷◌, length};
-ghost use Rattle.outside.specs.Clock.{GaveMoments, given_by, to_come_of, moment_at};
-ghost use Rattle.outside.specs.Count.{one_more};
+ghost use Rattle.nfs3_types.specs.Count.{one_more};
+ghost use Rattle.outside.specs.Clock.{GaveMoments};
+ghost use Rattle.outside.specs.ListClock.{list_told, moment_at};
 
 use crate::clock::Clock;
 use nfs3_types::Moment;
@@ -17,7 +18,7 @@ pub struct ListClock {
 }
 
 impl Model for ListClock {
-    ghost use Rattle.outside.specs.Clock.{MomentList};
+    ghost use Rattle.outside.specs.ListClock.{MomentList};
 
     ghost Value = { MomentList };
 
@@ -52,12 +53,10 @@ fn at(moments: &[Moment], k: u64) -> Moment
 }
 
 impl Clock for ListClock {
-    ghost given = { given_by };
-
-    ghost to_come = { to_come_of };
+    ghost told = { list_told };
 
     fn now(&mut self) -> Moment
-        ensures gave { GaveMoments given_by to_come_of self.old self.new (result ∷ []) }
+        ensures gave { GaveMoments list_told self.old self.new (result ∷ []) }
         ensures exact { result ≡ moment_at self.old.moments self.old.calls }
         ensures later { self.new ≡ record self.old { calls = one_more self.old.calls } }
     {

@@ -1,11 +1,9 @@
 //! A weather over a list of fates.
 
-ghost use Rattle.std.specs.Prelude.{◌≡◌, ℕ, Some, None, drop, true, false};
-ghost use Rattle.outside.specs.declared.weather.Fate.{Fate};
-ghost use Rattle.outside.specs.declared.weather.MessageKind.{MessageKind};
+ghost use Rattle.std.specs.Prelude.{◌≡◌, ℕ, None, drop};
 ghost use Rattle.outside.specs.BadFates.{counts_at, no_counts, counted};
-ghost use Rattle.outside.specs.ListWeather.{next_fate};
-ghost use Rattle.outside.specs.Weather.{Counts, Draws};
+ghost use Rattle.outside.specs.ListWeather.{list_told, next_fate};
+ghost use Rattle.outside.specs.Weather.{MetFate, MetNone};
 
 use crate::bad_fates::BadFates;
 use crate::weather::{Fate, MessageName, Weather};
@@ -62,15 +60,10 @@ impl ListWeather {
 }
 
 impl Weather for ListWeather {
-    ghost bad = { λ weather. counts_at weather.bad };
-
-    ghost to_come = { λ weather. Some weather.to_come };
-
-    ghost silent = { λ _ _ _ _. false };
+    ghost told = { list_told };
 
     fn fate(&mut self, message: MessageName) -> Fate
-        ensures counts { Counts (counts_at self.old.bad) (counts_at self.new.bad) message result }
-        ensures told { Draws (Some self.old.to_come) (Some self.new.to_come) result }
+        ensures met { MetFate list_told self.old self.new message result }
 
         // It gives the first fate, or delivers, and counts it.
         ensures exact { result ≡ next_fate self.old.to_come }
@@ -84,6 +77,7 @@ impl Weather for ListWeather {
     }
 
     fn stray(&mut self, held: u64) -> Option<u64>
+        ensures met { MetNone list_told self.old self.new }
         ensures exact { result ≡ None }
         ensures unchanged { self.new ≡ self.old }
     {

@@ -1,10 +1,10 @@
 //! A weather that some replicas are lost in.
 
-ghost use Rattle.std.specs.Prelude.{◌≡◌, ◌<◌, ◌≤◌, ℕ, None, nat_lt, true, if◌then◌else◌};
+ghost use Rattle.std.specs.Prelude.{◌≡◌, ℕ, None, nat_lt, if◌then◌else◌};
 ghost use Rattle.outside.specs.declared.weather.Fate.{Fate};
-ghost use Rattle.outside.specs.declared.weather.MessageKind.{MessageKind};
 ghost use Rattle.outside.specs.BadFates.{counts_at, no_counts, counted};
-ghost use Rattle.outside.specs.Weather.{Counts};
+ghost use Rattle.outside.specs.LostReplicas.{lost_told};
+ghost use Rattle.outside.specs.Weather.{MetFate, MetNone};
 
 use crate::bad_fates::BadFates;
 use crate::weather::{Fate, MessageName, Weather};
@@ -47,20 +47,14 @@ impl LostReplicas {
 }
 
 impl Weather for LostReplicas {
-    ghost bad = { λ weather. counts_at weather.bad };
-
-    ghost to_come = { λ _. None };
-
-    ghost silent = { λ weather _ replica _. nat_lt replica weather.lost };
+    ghost told = { lost_told };
 
     fn fate(&mut self, message: MessageName) -> Fate
-        ensures counts { Counts (counts_at self.old.bad) (counts_at self.new.bad) message result }
-        ensures lost { nat_lt message.replica self.old.lost ≡ true → result ≡ Fate.Lose }
-        ensures same_silence { (store replica : ℕ) (kind : MessageKind)
-            → nat_lt replica self.new.lost ≡ nat_lt replica self.old.lost }
+        ensures met { MetFate lost_told self.old self.new message result }
 
         // It loses those messages and no others, and counts them.
-        ensures exact { result ≡ (if nat_lt message.replica self.old.lost then Fate.Lose else Fate.Deliver) }
+        ensures exact { result
+            ≡ (if nat_lt message.replica self.old.lost then Fate.Lose else Fate.Deliver) }
         ensures counted { self.new ≡ record self.old { bad = counted self.old.bad message result } }
     {
         let fate = if message.replica < self.lost {
@@ -73,10 +67,7 @@ impl Weather for LostReplicas {
     }
 
     fn stray(&mut self, held: u64) -> Option<u64>
-        ensures same_counts { (store replica : ℕ)
-            → counts_at self.new.bad store replica ≡ counts_at self.old.bad store replica }
-        ensures same_silence { (store replica : ℕ) (kind : MessageKind)
-            → nat_lt replica self.new.lost ≡ nat_lt replica self.old.lost }
+        ensures met { MetNone lost_told self.old self.new }
         ensures exact { result ≡ None }
         ensures unchanged { self.new ≡ self.old }
     {

@@ -1,8 +1,9 @@
 //! A sink in memory.
 
-ghost use Rattle.std.specs.Prelude.{◌≡◌, ◌<◌, ◌≤◌, [], length, take, drop, slice_index, min, Some, Ok, IsErr, IfOk, OnOk, OnErr};
-ghost use Rattle.outside.specs.Count.{HasCause, Rose, one_more};
-ghost use Rattle.outside.specs.Told.{Gains};
+ghost use Rattle.std.specs.Prelude.{◌≡◌, ◌<◌, ◌≤◌, [], length, take, drop, slice_index, min, Ok, IsErr, IfOk, OnOk, OnErr};
+ghost use Rattle.nfs3_types.specs.Count.{HasCause, Rose, one_more};
+ghost use Rattle.outside.specs.Sink.{memory_told};
+ghost use Rattle.outside.specs.Told.{GotBytes};
 
 use crate::failed::Failed;
 use crate::plan::Plan;
@@ -26,7 +27,12 @@ impl Model for MemSink {
 
     ghost Value = { MemoryOutput };
 
-    ghost view = { λ a. record { written = a.written.items; cut = a.cut; plan = a.plan.plan; faults = a.plan.faults } };
+    ghost view = { λ a. record {
+      written = a.written.items;
+      cut = a.cut;
+      plan = a.plan.plan;
+      faults = a.plan.faults;
+    } };
 
     ghost invariant = { λ a. 1 ≤ a.cut };
 }
@@ -61,16 +67,16 @@ impl MemSink {
 }
 
 impl Sink for MemSink {
-    ghost written = { λ sink. Some sink.written };
-
-    ghost faults = { λ sink. sink.faults };
+    ghost told = { memory_told };
 
     fn put(&mut self, part: &[u8]) -> Result<usize, Failed>
         ensures within { IfOk result (λ n. n ≤ length part.now) }
-        ensures ok { IfOk result (λ n. Gains (Some self.old.written) (Some self.new.written) (take n part.now)) }
-        ensures err { OnErr result (Gains (Some self.old.written) (Some self.new.written) []) }
-        ensures cause { HasCause self.old.faults self.new.faults result }
-        ensures stuck { result ≡ Ok 0 → 0 < length part.now → Rose self.old.faults self.new.faults }
+        ensures ok { IfOk result (λ n. GotBytes memory_told self.old self.new (take n part.now)) }
+        ensures err { OnErr result (GotBytes memory_told self.old self.new []) }
+        ensures cause { HasCause (memory_told.faults self.old)
+            (memory_told.faults self.new) result }
+        ensures stuck { result ≡ Ok 0 → 0 < length part.now
+            → Rose (memory_told.faults self.old) (memory_told.faults self.new) }
 
         // It fails where that is planned, else only for want of memory, and else takes as much as fits.
         ensures planned { slice_index self.old.plan 0 ≡ 1 → IsErr result }

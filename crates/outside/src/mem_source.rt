@@ -1,12 +1,14 @@
 //! A source in memory.
 
-ghost use Rattle.std.specs.Prelude.{◌≡◌, ◌<◌, ◌≤◌, ◌↔◌, [], length, take, drop, slice_index, min, Some, Ok, IsErr, IfOk, OnOk, OnErr};
-ghost use Rattle.outside.specs.Count.{HasCause, one_more};
+ghost use Rattle.std.specs.Prelude.{◌≡◌, ◌<◌, ◌≤◌, ◌↔◌, [], length, take, drop, slice_index, min, Ok, IsErr, IfOk, OnOk, OnErr};
+ghost use Rattle.nfs3_types.specs.Count.{HasCause, one_more};
+ghost use Rattle.outside.specs.Source.{memory_told};
 ghost use Rattle.outside.specs.Told.{GaveBytes, IsUsedUp};
 
 use crate::failed::Failed;
 use crate::plan::Plan;
 use crate::source::Source;
+use crate::takes::after_take;
 use nfs3_types::Text;
 use std::marker::Model;
 
@@ -18,6 +20,7 @@ pub struct MemSource {
     place: usize,
     cut: usize,
     plan: Plan,
+    takes: u64,
 }
 
 impl Model for MemSource {
@@ -26,7 +29,14 @@ impl Model for MemSource {
 
     ghost Value = { MemoryInput };
 
-    ghost view = { λ a. record { taken = take a.place a.content; left = drop a.place a.content; cut = a.cut; plan = a.plan.plan; faults = a.plan.faults } };
+    ghost view = { λ a. record {
+      taken = take a.place a.content;
+      left = drop a.place a.content;
+      cut = a.cut;
+      plan = a.plan.plan;
+      takes = a.takes;
+      faults = a.plan.faults;
+    } };
 
     ghost invariant = { λ a. (a.place ≤ length a.content) × (1 ≤ a.cut) };
 }
@@ -36,14 +46,29 @@ impl MemSource {
     /// the k-th call whether it fails, by a byte 1; later calls succeed. It takes no memory.
     pub fn new(content: Text, cut: usize, plan: Text) -> MemSource
         requires { 1 ≤ cut }
-        ensures { result ≡ record { taken = []; left = content; cut = cut; plan = plan; faults = 0 } }
+        ensures { result ≡ record {
+          taken = [];
+          left = content;
+          cut = cut;
+          plan = plan;
+          takes = 0;
+          faults = 0;
+        } }
     {
         MemSource {
             content,
             place: 0,
             cut,
             plan: Plan::new(plan),
+            takes: 0,
         }
+    }
+
+    /// How many calls gave at least one byte.
+    pub fn takes(&self) -> u64
+        ensures { result ≡ self.now.takes }
+    {
+        self.takes
     }
 
     /// How many calls failed.
@@ -63,23 +88,22 @@ fn fill(room: &mut [u8], part: &[u8])
 }
 
 impl Source for MemSource {
-    ghost taken = { λ source. Some source.taken };
-
-    ghost left = { λ source. Some source.left };
-
-    ghost faults = { λ source. source.faults };
+    ghost told = { memory_told };
 
     fn take(&mut self, room: &mut [u8]) -> Result<usize, Failed>
         requires { 0 < length room.old }
         ensures within { IfOk result (λ n. n ≤ length room.new) }
-        ensures ok { IfOk result (λ n. GaveBytes (λ source. Some source.taken) (λ source. Some source.left) self.old self.new (take n room.new)) }
-        ensures end { result ≡ Ok 0 → IsUsedUp (Some self.new.left) }
-        ensures err { OnErr result (GaveBytes (λ source. Some source.taken) (λ source. Some source.left) self.old self.new []) }
-        ensures cause { HasCause self.old.faults self.new.faults result }
+        ensures ok { IfOk result (λ n. GaveBytes memory_told self.old self.new (min n 1)
+            (take n room.new)) }
+        ensures end { result ≡ Ok 0 → IsUsedUp (memory_told.left self.new) }
+        ensures err { OnErr result (GaveBytes memory_told self.old self.new 0 []) }
+        ensures cause { HasCause (memory_told.faults self.old)
+            (memory_told.faults self.new) result }
 
         // It fails exactly as planned, and else gives as much as fits.
         ensures planned { IsErr result ↔ (slice_index self.old.plan 0 ≡ 1) }
-        ensures count { IfOk result (λ n. n ≡ min (min (length room.old) self.old.cut) (length self.old.left)) }
+        ensures count { IfOk result (λ n. n
+            ≡ min (min (length room.old) self.old.cut) (length self.old.left)) }
         ensures later { self.new.plan ≡ drop 1 self.old.plan }
         ensures cut { self.new.cut ≡ self.old.cut }
         ensures counted { OnErr result (self.new.faults ≡ one_more self.old.faults) }
@@ -91,6 +115,7 @@ impl Source for MemSource {
         let end = self.place + n;
         fill(room, &self.content.as_slice()[self.place..end]);
         self.place = end;
+        self.takes = after_take(self.takes, n);
         Ok(n)
     }
 }

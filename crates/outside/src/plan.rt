@@ -1,7 +1,7 @@
 //! Which calls of an object in memory fail.
 
 ghost use Rattle.std.specs.Prelude.{◌≡◌, ◌==◌, ◌≤◌, ◌↔◌, drop, slice_index, IsErr, OnOk, OnErr};
-ghost use Rattle.outside.specs.Count.{one_more, HasCause};
+ghost use Rattle.nfs3_types.specs.Count.{one_more, HasCause};
 
 use crate::failed::Failed;
 use nfs3_types::Text;

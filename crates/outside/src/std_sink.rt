@@ -1,13 +1,14 @@
 //! A sink over a writer of the machine.
 
-ghost use Rattle.std.specs.Prelude.{◌≡◌, ◌<◌, ◌≤◌, ℕ, [], length, take, None, Ok, IfOk, OnErr};
+ghost use Rattle.std.specs.Prelude.{◌≡◌, ◌<◌, ◌≤◌, [], length, take, Ok, IfOk, OnErr};
 ghost use Rattle.std.specs.Io.KnownBytes.{WriteAppends};
-ghost use Rattle.outside.specs.Count.{HasCause, Rose, one_more};
-ghost use Rattle.outside.specs.Told.{Gains};
+ghost use Rattle.nfs3_types.specs.Count.{HasCause, Rose, one_more};
+ghost use Rattle.outside.specs.Adapter.{writer_told};
+ghost use Rattle.outside.specs.Told.{GotBytes};
 
-use crate::count::one_more;
 use crate::failed::Failed;
 use crate::sink::Sink;
+use nfs3_types::count::one_more;
 use std::io::Write;
 use std::marker::Model;
 
@@ -44,22 +45,25 @@ impl<W: Write> StdSink<W> {
 }
 
 impl<W: Write> Sink for StdSink<W> {
-    ghost written = { λ _. None };
-
-    ghost faults = { λ sink. sink.faults };
+    ghost told = { writer_told };
 
     fn put(&mut self, part: &[u8]) -> Result<usize, Failed>
         ensures within { IfOk result (λ n. n ≤ length part.now) }
-        ensures ok { IfOk result (λ n. Gains None None (take n part.now)) }
-        ensures err { OnErr result (Gains {X = ℕ} None None []) }
-        ensures cause { HasCause self.old.faults self.new.faults result }
-        ensures stuck { result ≡ Ok 0 → 0 < length part.now → Rose self.old.faults self.new.faults }
+        ensures ok { IfOk result (λ n. GotBytes writer_told self.old self.new (take n part.now)) }
+        ensures err { OnErr result (GotBytes writer_told self.old self.new []) }
+        ensures cause { HasCause (writer_told.faults self.old)
+            (writer_told.faults self.new) result }
+        ensures stuck { result ≡ Ok 0 → 0 < length part.now
+            → Rose (writer_told.faults self.old) (writer_told.faults self.new) }
 
         // It is one write of the writer.
-        ensures writes { WriteAppends (W.contents self.old.inner) (W.contents self.new.inner) result part.now }
+        ensures writes { WriteAppends (W.contents self.old.inner)
+            (W.contents self.new.inner) result part.now }
         ensures counted { OnErr result (self.new.faults ≡ one_more self.old.faults) }
-        ensures stuck_counted { result ≡ Ok 0 → 0 < length part.now → self.new.faults ≡ one_more self.old.faults }
-        ensures uncounted { IfOk result (λ n. (n ≡ 0 → length part.now ≡ 0) → self.new.faults ≡ self.old.faults) }
+        ensures stuck_counted { result ≡ Ok 0 → 0 < length part.now
+            → self.new.faults ≡ one_more self.old.faults }
+        ensures uncounted { IfOk result (λ n. (n ≡ 0 → length part.now ≡ 0)
+            → self.new.faults ≡ self.old.faults) }
     {
         match self.writer.write(part) {
             Ok(n) => {

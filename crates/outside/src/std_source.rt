@@ -1,13 +1,15 @@
 //! A source over a reader of the machine.
 
-ghost use Rattle.std.specs.Prelude.{◌≡◌, ◌<◌, ◌≤◌, ℕ, [], length, take, None, Ok, IfOk, OnOk, OnErr};
+ghost use Rattle.std.specs.Prelude.{◌≡◌, ◌<◌, ◌≤◌, [], length, take, min, Ok, IfOk, OnOk, OnErr};
 ghost use Rattle.std.specs.Io.KnownBytes.{ReadConsumes};
-ghost use Rattle.outside.specs.Count.{HasCause, one_more};
+ghost use Rattle.nfs3_types.specs.Count.{HasCause, one_more};
+ghost use Rattle.outside.specs.Adapter.{reader_told};
 ghost use Rattle.outside.specs.Told.{GaveBytes, IsUsedUp};
 
-use crate::count::one_more;
 use crate::failed::Failed;
 use crate::source::Source;
+use crate::takes::after_take;
+use nfs3_types::count::one_more;
 use std::io::Read;
 use std::marker::Model;
 
@@ -15,23 +17,35 @@ use std::marker::Model;
 #[derive(Debug, Drop)]
 pub struct StdSource<R: Read> {
     reader: R,
+    takes: u64,
     faults: u64,
 }
 
 impl<R: Read> Model for StdSource<R> {
-    ghost use Rattle.outside.specs.Adapter.{Adapted};
+    ghost use Rattle.outside.specs.Adapter.{AdaptedReader};
 
-    ghost Value = { Adapted R };
+    ghost Value = { AdaptedReader R };
 
-    ghost view = { λ a. record { inner = a.reader; faults = a.faults } };
+    ghost view = { λ a. record { inner = a.reader; takes = a.takes; faults = a.faults } };
 }
 
 impl<R: Read> StdSource<R> {
     /// A source over this reader.
     pub fn new(reader: R) -> StdSource<R>
-        ensures { result ≡ record { inner = reader; faults = 0 } }
+        ensures { result ≡ record { inner = reader; takes = 0; faults = 0 } }
     {
-        StdSource { reader, faults: 0 }
+        StdSource {
+            reader,
+            takes: 0,
+            faults: 0,
+        }
+    }
+
+    /// How many calls gave at least one byte.
+    pub fn takes(&self) -> u64
+        ensures { result ≡ self.now.takes }
+    {
+        self.takes
     }
 
     /// How many calls failed.
@@ -43,27 +57,29 @@ impl<R: Read> StdSource<R> {
 }
 
 impl<R: Read> Source for StdSource<R> {
-    ghost taken = { λ _. None };
-
-    ghost left = { λ _. None };
-
-    ghost faults = { λ source. source.faults };
+    ghost told = { reader_told };
 
     fn take(&mut self, room: &mut [u8]) -> Result<usize, Failed>
         requires { 0 < length room.old }
         ensures within { IfOk result (λ n. n ≤ length room.new) }
-        ensures ok { IfOk result (λ n. GaveBytes (λ _. None) (λ _. None) self.old self.new (take n room.new)) }
-        ensures end { result ≡ Ok 0 → IsUsedUp {X = ℕ} None }
-        ensures err { OnErr result (GaveBytes (λ _. None) (λ _. None) self.old self.new []) }
-        ensures cause { HasCause self.old.faults self.new.faults result }
+        ensures ok { IfOk result (λ n. GaveBytes reader_told self.old self.new (min n 1)
+            (take n room.new)) }
+        ensures end { result ≡ Ok 0 → IsUsedUp (reader_told.left self.new) }
+        ensures err { OnErr result (GaveBytes reader_told self.old self.new 0 []) }
+        ensures cause { HasCause (reader_told.faults self.old)
+            (reader_told.faults self.new) result }
 
         // It is one read of the reader.
-        ensures reads { ReadConsumes (R.remaining self.old.inner) (R.remaining self.new.inner) result room.new }
+        ensures reads { ReadConsumes (R.remaining self.old.inner)
+            (R.remaining self.new.inner) result room.new }
         ensures counted { OnErr result (self.new.faults ≡ one_more self.old.faults) }
         ensures uncounted { OnOk result (self.new.faults ≡ self.old.faults) }
     {
         match self.reader.read(room) {
-            Ok(n) => Ok(n),
+            Ok(n) => {
+                self.takes = after_take(self.takes, n);
+                Ok(n)
+            }
             Err(_) => {
                 self.faults = one_more(self.faults);
                 Err(Failed)

@@ -1,12 +1,13 @@
 //! The machine's clock.
 
-ghost use Rattle.std.specs.Prelude.{◌≡◌, ◌+◌, ◌-◌, ◌/◌, ◌%◌, ◌^◌, ◌<◌, ◌≤◌, [], ◌∷◌, None, min};
+ghost use Rattle.std.specs.Prelude.{◌≡◌, ◌+◌, ◌-◌, ◌/◌, ◌%◌, ◌^◌, ◌<◌, ◌≤◌, [], ◌∷◌, min};
 ghost use Rattle.std.specs.Duration.{as_nanos};
+ghost use Rattle.outside.specs.Adapter.{machine_told};
 ghost use Rattle.outside.specs.Clock.{GaveMoments};
 
 use crate::clock::Clock;
-use crate::count::one_more;
 use nfs3_types::Moment;
+use nfs3_types::count::one_more;
 use std::marker::Model;
 use std::rt;
 use std::time::Duration;
@@ -55,19 +56,19 @@ fn moment_of(time: Duration) -> Moment
 }
 
 impl<R: rt::Clock> Clock for WallClock<R> {
-    ghost given = { λ _. None };
-
-    ghost to_come = { λ _. None };
+    ghost told = { machine_told };
 
     fn now(&mut self) -> Moment
-        ensures gave { GaveMoments (λ _. None) (λ _. None) self.old self.new (result ∷ []) }
+        ensures gave { GaveMoments machine_told self.old self.new (result ∷ []) }
 
         // It reads the machine's clock, and counts where that cannot be read.
         ensures nanos { result.nanos < 1_000_000_000 }
         ensures same_machine { self.new.inner ≡ self.old.inner }
         ensures never_falls { self.old.faults ≤ self.new.faults }
-        ensures counted { self.old.faults < self.new.faults → self.new.faults ≡ self.old.faults + 1 }
-        ensures unread { self.old.faults < self.new.faults → result ≡ record { seconds = 0; nanos = 0 } }
+        ensures counted { self.old.faults < self.new.faults
+            → self.new.faults ≡ self.old.faults + 1 }
+        ensures unread { self.old.faults < self.new.faults
+            → result ≡ record { seconds = 0; nanos = 0 } }
     {
         match self.machine.since_1970() {
             Ok(time) => moment_of(time),

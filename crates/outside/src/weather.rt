@@ -1,9 +1,7 @@
 //! The weather: what becomes of the messages among the replicas of a store.
 
-ghost use Rattle.std.specs.Prelude.{◌≡◌, ℕ, List, Bool, true, Option};
-ghost use Rattle.outside.specs.declared.weather.Fate.{Fate};
-ghost use Rattle.outside.specs.declared.weather.MessageKind.{MessageKind};
-ghost use Rattle.outside.specs.Weather.{Counts, Draws, is_bad};
+ghost use Rattle.std.specs.Prelude.{◌≡◌};
+ghost use Rattle.outside.specs.Weather.{WeatherTold, MetFate, MetNone, is_bad};
 
 /// Bad fates are counted apart for each store numbered below this.
 pub const MOST_STORES: u32 = 16;
@@ -67,37 +65,28 @@ impl Fate {
 
 /// Decides what becomes of each message. A fate that loses or holds a message is a bad one.
 pub trait Weather {
-    /// How many bad fates the messages of a store and a replica met.
-    ghost bad: { Self → ℕ → ℕ → ℕ };
-
-    /// The fates to come, where the weather tells them. After the last of them all are `Deliver`.
-    ghost to_come: { Self → Option (List Fate) };
-
-    /// Whether every message of this store, replica and kind is lost.
-    ghost silent: { Self → ℕ → ℕ → MessageKind → Bool };
+    /// What it tells: how many bad fates the messages of a store and a replica met; the fates to come,
+    /// where it tells them, after the last of which all are `Deliver`; and whether every message of a
+    /// store, replica and kind is lost.
+    ghost told: { WeatherTold Self };
 
     /// The fate of a message.
     fn fate(&mut self, message: MessageName) -> Fate
-        ensures counts { Counts (bad self.old) (bad self.new) message result }
-        ensures told { Draws (to_come self.old) (to_come self.new) result }
-        ensures lost { silent self.old message.store message.replica message.kind ≡ true → result ≡ Fate.Lose }
-        ensures same_silence { (store replica : ℕ) (kind : MessageKind) → silent self.new store replica kind ≡ silent self.old store replica kind };
+        ensures met { MetFate told self.old self.new message result };
 
     /// Which of the `held` messages comes now, before a fresh one is sent: the k-th in the order in
     /// which they were held back, from 0, where k is below `held`; else none. Which one it is, or
     /// none, is free.
     fn stray(&mut self, held: u64) -> Option<u64>
-        ensures same_counts { (store replica : ℕ) → bad self.new store replica ≡ bad self.old store replica }
-        ensures same_told { to_come self.new ≡ to_come self.old }
-        ensures same_silence { (store replica : ℕ) (kind : MessageKind) → silent self.new store replica kind ≡ silent self.old store replica kind };
+        ensures met { MetNone told self.old self.new };
 }
 
 impl<W: Weather> Weather for &mut W {
-    ghost bad = { λ weather. W.bad weather.now };
-
-    ghost to_come = { λ weather. W.to_come weather.now };
-
-    ghost silent = { λ weather. W.silent weather.now };
+    ghost told = { record {
+      bad = λ weather. W.told.bad weather.now;
+      to_come = λ weather. W.told.to_come weather.now;
+      silent = λ weather. W.told.silent weather.now;
+    } };
 
     fn fate(&mut self, message: MessageName) -> Fate {
         Weather::fate(&mut **self, message)

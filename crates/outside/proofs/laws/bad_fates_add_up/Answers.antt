@@ -1,4 +1,4 @@
-use Rattle.outside.proofs.CountLaws.{bad_fates-le, bad_fates-same, bad_fates-rose}
+use Rattle.outside.proofs.FateLaws.{bad_fates-le, bad_fates-same, bad_fates-rose}
 use Rattle.outside.proofs.laws.bad_fates_add_up.Goals as goal
 
 pub returns : goal.returns
