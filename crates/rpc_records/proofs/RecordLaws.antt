@@ -1,5 +1,7 @@
 -- The record at the front of a text: its cases, a longer text, and a record that was written.
-use Rattle.std.proofs.Common.{◌≡◌, ℕ, zero, suc, ◌+◌, ◌-◌, ◌^◌, ◌%◌, ◌<◌, ◌≤◌, Bool, true, false, List, [], ◌∷◌, ◌++◌, length, take, drop, refl, sym, ap, ◌∙◌, inl, inr, append_assoc, length-append, length-take, length-drop, arith}
+use Rattle.std.proofs.Common.{◌≡◌, ℕ, zero, suc, ◌+◌, ◌-◌, ◌^◌, ◌%◌, ◌<◌, ◌≤◌, Bool, true, false, List, [], ◌∷◌, ◌++◌, length}
+use Rattle.std.proofs.Common.{take, drop, refl, sym, ap, ◌∙◌, inl, inr, append_assoc, length-append, length-take, length-drop}
+use Rattle.std.proofs.Common.{arith}
 use Rattle.std.specs.Prelude.{nat_lt}
 use Rattle.std.specs.List.{flat_map}
 use Rattle.std.proofs.Math.Nat.{add-mod_left, mod-eq_of_lt}
@@ -17,15 +19,18 @@ use Rattle.rpc_records.specs.Fragments.{unmarked, in_fragments, joined}
 
 -- ---- the cases
 
-pub fragment_at-short : (go_on : List ℕ → List ℕ → Reading) (last : Bool) (size : ℕ) (content text : List ℕ) → length text < size → fragment_at go_on last size content text ≡ Partial
+pub fragment_at-short : (go_on : List ℕ → List ℕ → Reading) (last : Bool) (size : ℕ) (content text : List ℕ)
+    → length text < size → fragment_at go_on last size content text ≡ Partial
 unfolding fragment_at
 fragment_at-short go_on last size content text h = let e : nat_lt (length text) size ≡ true = lt-ltb _ _ h in rw e refl
 
-pub fragment_at-last : (go_on : List ℕ → List ℕ → Reading) (size : ℕ) (content text : List ℕ) → size ≤ length text → fragment_at go_on true size content text ≡ Whole (content ++ take size text) (drop size text)
+pub fragment_at-last : (go_on : List ℕ → List ℕ → Reading) (size : ℕ) (content text : List ℕ) → size ≤ length text
+    → fragment_at go_on true size content text ≡ Whole (content ++ take size text) (drop size text)
 unfolding fragment_at
 fragment_at-last go_on size content text h = let e : nat_lt (length text) size ≡ false = le-ltb _ _ h in rw e refl
 
-pub fragment_at-more : (go_on : List ℕ → List ℕ → Reading) (size : ℕ) (content text : List ℕ) → size ≤ length text → fragment_at go_on false size content text ≡ go_on (content ++ take size text) (drop size text)
+pub fragment_at-more : (go_on : List ℕ → List ℕ → Reading) (size : ℕ) (content text : List ℕ) → size ≤ length text
+    → fragment_at go_on false size content text ≡ go_on (content ++ take size text) (drop size text)
 unfolding fragment_at
 fragment_at-more go_on size content text h = let e : nat_lt (length text) size ≡ false = le-ltb _ _ h in rw e refl
 
@@ -38,15 +43,18 @@ pub record_at-none : (content text : List ℕ) → 4 ≤ length text → record_
 unfolding record_at
 record_at-none content text h = let e : nat_lt (length text) 4 ≡ false = le-ltb _ _ h in rw e refl
 
-pub record_at-long : (n : ℕ) (content text : List ℕ) → 4 ≤ length text → MOST_BYTES < length content + fragment_length (head_of text) → record_at (suc n) content text ≡ Refused TooLong
+pub record_at-long : (n : ℕ) (content text : List ℕ) → 4 ≤ length text
+    → MOST_BYTES < length content + fragment_length (head_of text) → record_at (suc n) content text ≡ Refused TooLong
 unfolding record_at
 record_at-long n content text h long =
     let e : nat_lt (length text) 4 ≡ false = le-ltb _ _ h in
     let l : nat_lt MOST_BYTES (length content + fragment_length (head_of text)) ≡ true = lt-ltb _ _ long in
     rw (e, l) refl
 
-pub record_at-fits : (n : ℕ) (content text : List ℕ) → 4 ≤ length text → length content + fragment_length (head_of text) ≤ MOST_BYTES
-    → record_at (suc n) content text ≡ fragment_at (record_at n) (is_last (head_of text)) (fragment_length (head_of text)) content (drop 4 text)
+pub record_at-fits : (n : ℕ) (content text : List ℕ) → 4 ≤ length text
+    → length content + fragment_length (head_of text) ≤ MOST_BYTES
+    → record_at (suc n) content text ≡ fragment_at (record_at n) (is_last (head_of text))
+    (fragment_length (head_of text)) content (drop 4 text)
 unfolding record_at
 record_at-fits n content text h fits =
     let e : nat_lt (length text) 4 ≡ false = le-ltb _ _ h in
@@ -65,7 +73,8 @@ IsLonger more (Whole content rest) longer = longer ≡ Whole content (rest ++ mo
 IsLonger more Partial longer = Unit {0}
 IsLonger more (Refused fault) longer = longer ≡ Refused fault
 
-IsLonger-refused : (more : List ℕ) (short long : Reading) → short ≡ long → ((content rest : List ℕ) → short ≡ Whole content rest → ⊥) → IsLonger more short long
+IsLonger-refused : (more : List ℕ) (short long : Reading) → short ≡ long
+    → ((content rest : List ℕ) → short ≡ Whole content rest → ⊥) → IsLonger more short long
 IsLonger-refused more (Whole content rest) long e not_whole = absurd (not_whole content rest refl)
 IsLonger-refused more Partial long e not_whole = tt
 IsLonger-refused more (Refused fault) long e not_whole = sym e
@@ -79,13 +88,27 @@ fragment_at-longer go_on last size content text more longer = elim (cases_lt (le
       let enough_more : size ≤ length (text ++ more) = omega (arith, length-append text more) in
       let front = take-append-le size text more enough in
       let back = drop-append-le size text more enough in
-      elim last as (λ b. IsLonger more (fragment_at go_on b size content text) (fragment_at go_on b size content (text ++ more))) [
-        | true ↦ rw (fragment_at-last go_on size content text enough, fragment_at-last go_on size content (text ++ more) enough_more, front, back) refl
-        | false ↦ rw (fragment_at-more go_on size content text enough, fragment_at-more go_on size content (text ++ more) enough_more, front, back) (longer (content ++ take size text) (drop size text))
+      elim last as (λ b. IsLonger more (fragment_at go_on b size content text)
+      (fragment_at go_on b size content (text ++ more))) [
+        | true ↦ rw (
+          fragment_at-last go_on size content text enough,
+          fragment_at-last go_on size content
+              (text ++ more) enough_more,
+          front,
+          back,
+        ) refl
+        | false ↦ rw (
+          fragment_at-more go_on size content text enough,
+          fragment_at-more go_on size content
+              (text ++ more) enough_more,
+          front,
+          back,
+        ) (longer (content ++ take size text) (drop size text))
       ]
 ]
 
-pub record_at-longer : (n : ℕ) (content text more : List ℕ) → IsLonger more (record_at n content text) (record_at n content (text ++ more))
+pub record_at-longer : (n : ℕ) (content text more : List ℕ)
+    → IsLonger more (record_at n content text) (record_at n content (text ++ more))
 record_at-longer zero content text more = elim (cases_lt (length text) 4) [
   | inl short ↦ rw (record_at-short 0 content text short) tt
   | inr enough ↦
@@ -103,8 +126,14 @@ record_at-longer (suc n) content text more = elim (cases_lt (length text) 4) [
             rw (record_at-long n content text enough long, record_at-long n content (text ++ more) enough_more long_more) refl
         | inr fits ↦
             let fits_more : length content + fragment_length (head_of (text ++ more)) ≤ MOST_BYTES = rw head fits in
-            rw (record_at-fits n content text enough fits, record_at-fits n content (text ++ more) enough_more fits_more, head, drop-append-le 4 text more enough)
-            (fragment_at-longer (record_at n) (is_last (head_of text)) (fragment_length (head_of text)) content (drop 4 text) more (λ c t. record_at-longer n c t more))
+            rw (
+              record_at-fits n content text enough fits,
+              record_at-fits n content (text ++ more) enough_more fits_more,
+              head,
+              drop-append-le 4 text more enough,
+            )
+            (fragment_at-longer (record_at n) (is_last (head_of text)) (fragment_length (head_of text)) content
+            (drop 4 text) more (λ c t. record_at-longer n c t more))
       ]
 ]
 
@@ -128,7 +157,8 @@ fragment_at-leaves go_on last size content text leaves = elim (cases_lt (length 
   | inr enough ↦ elim last as (λ b. Leaves (length text) (fragment_at go_on b size content text)) [
     | true ↦ rw (fragment_at-last go_on size content text enough) (omega (arith, length-drop size text))
     | false ↦ rw (fragment_at-more go_on size content text enough)
-        (Leaves-more (length (drop size text)) (length text) _ (omega (arith, length-drop size text)) (leaves (content ++ take size text) (drop size text)))
+        (Leaves-more (length (drop size text)) (length text) _ (omega (arith, length-drop size text))
+        (leaves (content ++ take size text) (drop size text)))
   ]
 ]
 
@@ -155,12 +185,14 @@ HasShort (Whole content rest) = length content ≤ MOST_BYTES
 HasShort Partial = Unit {0}
 HasShort (Refused fault) = Unit {0}
 
-fragment_at-content : (go_on : List ℕ → List ℕ → Reading) (last : Bool) (size : ℕ) (content text : List ℕ) → length content + size ≤ MOST_BYTES
+fragment_at-content : (go_on : List ℕ → List ℕ → Reading) (last : Bool) (size : ℕ) (content text : List ℕ)
+    → length content + size ≤ MOST_BYTES
     → ((c t : List ℕ) → length c ≤ MOST_BYTES → HasShort (go_on c t)) → HasShort (fragment_at go_on last size content text)
 fragment_at-content go_on last size content text fits short = elim (cases_lt (length text) size) [
   | inl few ↦ rw (fragment_at-short go_on last size content text few) tt
   | inr enough ↦
-      let all : length (content ++ take size text) ≤ MOST_BYTES = omega (arith, length-append content (take size text), length-take size text) in
+      let all : length (content ++ take size text) ≤ MOST_BYTES =
+      omega (arith, length-append content (take size text), length-take size text) in
       elim last as (λ b. HasShort (fragment_at go_on b size content text)) [
         | true ↦ rw (fragment_at-last go_on size content text enough) all
         | false ↦ rw (fragment_at-more go_on size content text enough) (short (content ++ take size text) (drop size text) all)
@@ -185,7 +217,8 @@ record_at-content (suc n) content text h = elim (cases_lt (length text) 4) [
 -- ---- a head
 
 -- reading goes on behind a head
-pub record_at-head : (n x : ℕ) (content mark more : List ℕ) → length mark ≡ 4 → head_of mark ≡ x → length content + fragment_length x ≤ MOST_BYTES
+pub record_at-head : (n x : ℕ) (content mark more : List ℕ) → length mark ≡ 4 → head_of mark ≡ x
+    → length content + fragment_length x ≤ MOST_BYTES
     → record_at (suc n) content (mark ++ more) ≡ fragment_at (record_at n) (is_last x) (fragment_length x) content more
 record_at-head n x content mark more long is fits =
     let enough : 4 ≤ length (mark ++ more) = omega (arith, length-append mark more, long) in
@@ -193,7 +226,8 @@ record_at-head n x content mark more long is fits =
     let fits_head : length content + fragment_length (head_of (mark ++ more)) ≤ MOST_BYTES = rw head fits in
     rw (record_at-fits n content (mark ++ more) enough fits_head, head, drop_at mark more 4 long) refl
 
-pub record_at-head_long : (n x : ℕ) (content mark more : List ℕ) → length mark ≡ 4 → head_of mark ≡ x → MOST_BYTES < length content + fragment_length x
+pub record_at-head_long : (n x : ℕ) (content mark more : List ℕ) → length mark ≡ 4 → head_of mark ≡ x
+    → MOST_BYTES < length content + fragment_length x
     → record_at (suc n) content (mark ++ more) ≡ Refused TooLong
 record_at-head_long n x content mark more long is passes =
     let enough : 4 ≤ length (mark ++ more) = omega (arith, length-append mark more, long) in
@@ -208,24 +242,41 @@ pub fragment_at-part : (go_on : List ℕ → List ℕ → Reading) (last : Bool)
 fragment_at-part go_on last left content part more = elim (cases_lt (length more) left) [
   | inl short ↦
       let short_all : length (part ++ more) < length part + left = omega (arith, length-append part more) in
-      fragment_at-short go_on last (length part + left) content (part ++ more) short_all ∙ sym (fragment_at-short go_on last left (content ++ part) more short)
+      fragment_at-short go_on last (length part + left) content (part ++ more) short_all
+      ∙ sym (fragment_at-short go_on last left (content ++ part) more short)
   | inr enough ↦
       let enough_all : length part + left ≤ length (part ++ more) = omega (arith, length-append part more) in
-      let front : content ++ take (length part + left) (part ++ more) ≡ (content ++ part) ++ take left more = ap (λ (t : List ℕ). content ++ t) (take-append-add part more left) ∙ sym (append_assoc content part (take left more)) in
+      let front : content ++ take (length part + left) (part ++ more) ≡ (content ++ part) ++ take left more =
+      ap (λ (t : List ℕ). content ++ t) (take-append-add part more left) ∙ sym (append_assoc content part (take left more)) in
       let back = drop-append-add part more left in
-      elim last as (λ b. fragment_at go_on b (length part + left) content (part ++ more) ≡ fragment_at go_on b left (content ++ part) more) [
-        | true ↦ rw (fragment_at-last go_on (length part + left) content (part ++ more) enough_all, fragment_at-last go_on left (content ++ part) more enough, front, back) refl
-        | false ↦ rw (fragment_at-more go_on (length part + left) content (part ++ more) enough_all, fragment_at-more go_on left (content ++ part) more enough, front, back) refl
+      elim last as (λ b. fragment_at go_on b (length part + left) content (part ++ more) ≡ fragment_at go_on b left
+      (content ++ part) more) [
+        | true ↦ rw (
+          fragment_at-last go_on (length part + left) content (part ++ more) enough_all,
+          fragment_at-last go_on left (content ++ part) more enough,
+          front,
+          back,
+        ) refl
+        | false ↦ rw (
+          fragment_at-more go_on (length part + left) content (part ++ more) enough_all,
+          fragment_at-more go_on left (content ++ part) more enough,
+          front,
+          back,
+        ) refl
       ]
 ]
 
 -- a fragment of which nothing is left
-pub fragment_at-ended_last : (go_on : List ℕ → List ℕ → Reading) (left : ℕ) (content text : List ℕ) → left ≤ 0 → fragment_at go_on true left content text ≡ Whole content text
-fragment_at-ended_last go_on zero content text h = fragment_at-last go_on 0 content text (omega arith) ∙ ap (λ (t : List ℕ). Whole t text) (append-nil content)
+pub fragment_at-ended_last : (go_on : List ℕ → List ℕ → Reading) (left : ℕ) (content text : List ℕ) → left ≤ 0
+    → fragment_at go_on true left content text ≡ Whole content text
+fragment_at-ended_last go_on zero content text h = fragment_at-last go_on 0 content text (omega arith)
+    ∙ ap (λ (t : List ℕ). Whole t text) (append-nil content)
 fragment_at-ended_last go_on (suc left) content text h = absurd (omega arith)
 
-pub fragment_at-ended_more : (go_on : List ℕ → List ℕ → Reading) (left : ℕ) (content text : List ℕ) → left ≤ 0 → fragment_at go_on false left content text ≡ go_on content text
-fragment_at-ended_more go_on zero content text h = fragment_at-more go_on 0 content text (omega arith) ∙ ap (λ (t : List ℕ). go_on t text) (append-nil content)
+pub fragment_at-ended_more : (go_on : List ℕ → List ℕ → Reading) (left : ℕ) (content text : List ℕ) → left ≤ 0
+    → fragment_at go_on false left content text ≡ go_on content text
+fragment_at-ended_more go_on zero content text h = fragment_at-more go_on 0 content text (omega arith)
+    ∙ ap (λ (t : List ℕ). go_on t text) (append-nil content)
 fragment_at-ended_more go_on (suc left) content text h = absurd (omega arith)
 
 -- ---- a record that was written
@@ -245,10 +296,12 @@ length_under top n h = add-mod_left top n ∙ mod-eq_of_lt h
 -- reading goes on behind a head that was written
 pub record_at-mark : (n x : ℕ) (content more : List ℕ) → x < 2 ^ 32 → length content + fragment_length x ≤ MOST_BYTES
     → record_at (suc n) content (word.spelling x ++ more) ≡ fragment_at (record_at n) (is_last x) (fragment_length x) content more
-record_at-mark n x content more small fits = record_at-head n x content (word.spelling x) more (length-mark x) (head_of-mark x (omega arith)) fits
+record_at-mark n x content more small fits =
+    record_at-head n x content (word.spelling x) more (length-mark x) (head_of-mark x (omega arith)) fits
 
 -- the last fragment, behind other content
-pub record_at-last : (n : ℕ) (content part more : List ℕ) → length content + length part ≤ MOST_BYTES → record_at (suc n) content (marked part ++ more) ≡ Whole (content ++ part) more
+pub record_at-last : (n : ℕ) (content part more : List ℕ) → length content + length part ≤ MOST_BYTES
+    → record_at (suc n) content (marked part ++ more) ≡ Whole (content ++ part) more
 unfolding marked
 record_at-last n content part more h =
     let size = length part in
@@ -256,10 +309,20 @@ record_at-last n content part more h =
     let long : fragment_length (2 ^ 31 + size) ≡ size = length_under (2 ^ 31) size (omega arith) in
     let step = record_at-mark n (2 ^ 31 + size) content (part ++ more) (omega arith) (rw long h) in
     let enough : size ≤ length (part ++ more) = omega (arith, length-append part more) in
-    rw (append_assoc (word.spelling (2 ^ 31 + size)) part more, step, last, long, fragment_at-last (record_at n) size content (part ++ more) enough, take_at part more size refl, drop_at part more size refl) refl
+    rw (
+      append_assoc (word.spelling (2 ^ 31 + size)) part more,
+      step,
+      last,
+      long,
+      fragment_at-last (record_at n) size content
+          (part ++ more) enough,
+      take_at part more size refl,
+      drop_at part more size refl,
+    ) refl
 
 -- a fragment that another one follows
-pub record_at-unmarked : (n : ℕ) (content part more : List ℕ) → length content + length part ≤ MOST_BYTES → record_at (suc n) content (unmarked part ++ more) ≡ record_at n (content ++ part) more
+pub record_at-unmarked : (n : ℕ) (content part more : List ℕ) → length content + length part ≤ MOST_BYTES
+    → record_at (suc n) content (unmarked part ++ more) ≡ record_at n (content ++ part) more
 unfolding unmarked
 record_at-unmarked n content part more h =
     let size = length part in
@@ -267,13 +330,24 @@ record_at-unmarked n content part more h =
     let long : fragment_length size ≡ size = mod-eq_of_lt (omega arith) in
     let step = record_at-mark n size content (part ++ more) (omega arith) (rw long h) in
     let enough : size ≤ length (part ++ more) = omega (arith, length-append part more) in
-    rw (append_assoc (word.spelling size) part more, step, last, long, fragment_at-more (record_at n) size content (part ++ more) enough, take_at part more size refl, drop_at part more size refl) refl
+    rw (
+      append_assoc (word.spelling size) part more,
+      step,
+      last,
+      long,
+      fragment_at-more (record_at n) size content
+          (part ++ more) enough,
+      take_at part more size refl,
+      drop_at part more size refl,
+    ) refl
 
-pub record_at-marked : (n : ℕ) (content more : List ℕ) → length content ≤ MOST_BYTES → record_at (suc n) [] (marked content ++ more) ≡ Whole content more
+pub record_at-marked : (n : ℕ) (content more : List ℕ) → length content ≤ MOST_BYTES
+    → record_at (suc n) [] (marked content ++ more) ≡ Whole content more
 record_at-marked n content more h = record_at-last n [] content more (omega arith)
 
 -- fragments one behind another
-pub record_at-fragments : (parts : List (List ℕ)) (n : ℕ) (content last more : List ℕ) → length parts ≤ n → length content + length (joined parts last) ≤ MOST_BYTES
+pub record_at-fragments : (parts : List (List ℕ)) (n : ℕ) (content last more : List ℕ) → length parts ≤ n
+    → length content + length (joined parts last) ≤ MOST_BYTES
     → record_at (suc n) content (in_fragments parts last ++ more) ≡ Whole (content ++ joined parts last) more
 record_at-fragments [] n content last more few fits = record_at-last n content last more fits
 record_at-fragments (part ∷ parts) zero content last more few fits = absurd (omega arith)
@@ -282,9 +356,11 @@ record_at-fragments (part ∷ parts) (suc n) content last more few fits =
     let size : length (joined (part ∷ parts) last) ≡ length part + length (joined parts last) =
     ap length (append_assoc part others last) ∙ length-append part (joined parts last) in
     let first = record_at-unmarked (suc n) content part (in_fragments parts last ++ more) (omega arith) in
-    let behind = record_at-fragments parts n (content ++ part) last more (omega arith) (omega (arith, length-append content part)) in
+    let behind = record_at-fragments parts n (content ++ part) last more (omega arith)
+    (omega (arith, length-append content part)) in
     let text : in_fragments (part ∷ parts) last ++ more ≡ unmarked part ++ (in_fragments parts last ++ more) =
-    ap (λ (t : List ℕ). t ++ more) (append_assoc (unmarked part) (flat_map unmarked parts) (marked last)) ∙ append_assoc (unmarked part) (in_fragments parts last) more in
+    ap (λ (t : List ℕ). t ++ more) (append_assoc (unmarked part) (flat_map unmarked parts) (marked last))
+    ∙ append_assoc (unmarked part) (in_fragments parts last) more in
     let whole : (content ++ part) ++ joined parts last ≡ content ++ joined (part ∷ parts) last =
     append_assoc content part (joined parts last) ∙ ap (λ (t : List ℕ). content ++ t) (sym (append_assoc part others last)) in
     ap (record_at (suc (suc n)) content) text ∙ (first ∙ (behind ∙ ap (λ (t : List ℕ). Whole t more) whole))

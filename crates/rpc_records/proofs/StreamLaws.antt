@@ -1,5 +1,6 @@
 -- A reader over a whole stream follows record marking.
-use Rattle.std.proofs.Common.{◌≡◌, ℕ, false, List, [], ◌∷◌, ◌++◌, length, take, Result, Ok, Err, Some, None, refl, sym, ap, subst, ◌∙◌, inl, inr, append_assoc, length-append, arith}
+use Rattle.std.proofs.Common.{◌≡◌, ℕ, false, List, [], ◌∷◌, ◌++◌, length, take, Result, Ok, Err, Some, None, refl, sym, ap, subst}
+use Rattle.std.proofs.Common.{◌∙◌, inl, inr, append_assoc, length-append, arith}
 use Rattle.std.specs.Prelude.{◌==◌}
 use Rattle.std.proofs.lemmas.Bool.{ne_eqb, cases_lt}
 use Rattle.std.proofs.lemmas.List.{append-nil, take_all}
@@ -8,12 +9,14 @@ use Rattle.rpc_records.specs.declared.fault.RecordFault.{RecordFault}
 use Rattle.rpc_records.specs.Reading.{Reading, first_record}
 use Rattle.rpc_records.specs.Reading.Reading.{Whole, Partial, Refused}
 use Rattle.rpc_records.specs.Marking.{Marking, none_whole, with_records, marking}
-use Rattle.rpc_records.specs.Progress.{Progress, IsUnfinished, fresh, reading_of, taken_of, is_at_edge, kept_by, refusal_of, Feeds, after_next}
+use Rattle.rpc_records.specs.Progress.{Progress, IsUnfinished, fresh, reading_of, taken_of, is_at_edge, kept_by, refusal_of}
+use Rattle.rpc_records.specs.Progress.{Feeds, after_next}
 use Rattle.rpc_records.specs.Progress.Progress.{InHead, InFragment, Holding, Refusing}
 use Rattle.rpc_records.specs.Stream.{taken_part, HasRead, FollowsMarking, Call, Runs, IsSameReading}
 use Rattle.rpc_records.specs.Stream.Call.{Feed, Next}
 use Rattle.rpc_records.proofs.RecordLaws.{record_at-short}
-use Rattle.rpc_records.proofs.MarkingLaws.{first_record-longer_refused, marking-whole, marking-partial, marking-refused, marking-append_none}
+use Rattle.rpc_records.proofs.MarkingLaws.{first_record-longer_refused, marking-whole, marking-partial, marking-refused}
+use Rattle.rpc_records.proofs.MarkingLaws.{marking-append_none}
 
 -- no text has no record
 marking-nil : marking [] ≡ none_whole [] None
@@ -40,14 +43,16 @@ partial-unfinished (Holding content) text e = absurd cc
 partial-unfinished (Refusing fault) text e = absurd cc
 
 -- the reader read a piece that it took in part
-fed-ok : (text : List ℕ) (dropped : List (List ℕ)) (old new : Progress) (piece : List ℕ) (n : ℕ) → HasRead text dropped old → Feeds old piece (Ok n) new
+fed-ok : (text : List ℕ) (dropped : List (List ℕ)) (old new : Progress) (piece : List ℕ) (n : ℕ) → HasRead text dropped old
+    → Feeds old piece (Ok n) new
     → (IsUnfinished new → (reading_of old piece ≡ Partial) × (n ≡ length piece)) → HasRead (text ++ take n piece) dropped new
 fed-ok text dropped old new piece n h f all = record {
   front = h.front;
   present = h.present ++ take n piece;
   parts = ap (λ (t : List ℕ). t ++ take n piece) h.parts ∙ append_assoc h.front h.present (take n piece);
   front_is = h.front_is;
-  reads = λ more. f.goes_on more ∙ (h.reads (take n piece ++ more) ∙ ap first_record (sym (append_assoc h.present (take n piece) more)));
+  reads = λ more. f.goes_on more
+      ∙ (h.reads (take n piece ++ more) ∙ ap first_record (sym (append_assoc h.present (take n piece) more)));
   partial = λ un.
       let a = all un in
       let whole : take n piece ≡ piece = take_all n piece (omega (arith, a.1)) in
@@ -61,7 +66,8 @@ fed-ok text dropped old new piece n h f all = record {
 }
 
 -- the reader refused a piece
-fed-err : (text : List ℕ) (dropped : List (List ℕ)) (old new : Progress) (piece : List ℕ) (fault : RecordFault) → HasRead text dropped old
+fed-err : (text : List ℕ) (dropped : List (List ℕ)) (old new : Progress) (piece : List ℕ) (fault : RecordFault)
+    → HasRead text dropped old
     → reading_of old piece ≡ Refused fault → new ≡ Refusing fault → HasRead (text ++ piece) dropped new
 fed-err text dropped old new piece fault h e is = subst (λ (p : Progress). HasRead (text ++ piece) dropped p) (sym is) (record {
   front = h.front;
@@ -73,7 +79,8 @@ fed-err text dropped old new piece fault h e is = subst (λ (p : Progress). HasR
   taken = λ un. absurd un;
 })
 
-ok_is : (m n : ℕ) → (let first : Result ℕ RecordFault = Ok m in let second : Result ℕ RecordFault = Ok n in first ≡ second) → m ≡ n
+ok_is : (m n : ℕ) → (let first : Result ℕ RecordFault = Ok m in let second : Result ℕ RecordFault = Ok n in first ≡ second)
+    → m ≡ n
 ok_is m n e = cc
 
 pub HasRead-feed : (text : List ℕ) (dropped : List (List ℕ)) (old new : Progress) (piece : List ℕ) (result : Result ℕ RecordFault)
@@ -93,24 +100,29 @@ HasRead-feed text dropped old new piece (Err fault) h f =
     ]) refl
 
 -- what has been read, by the present bytes
-marking-read : (text : List ℕ) (dropped : List (List ℕ)) (now : Progress) (h : HasRead text dropped now) → marking text ≡ with_records dropped (marking h.present)
+marking-read : (text : List ℕ) (dropped : List (List ℕ)) (now : Progress) (h : HasRead text dropped now)
+    → marking text ≡ with_records dropped (marking h.present)
 marking-read text dropped now h =
     let open_end : (marking h.front).refusal ≡ None = ap (λ (m : Marking). m.refusal) h.front_is in
     ap marking h.parts ∙ (marking-append_none h.front h.present open_end
     ∙ ap (λ (m : Marking). with_records m.records (marking (m.rest ++ h.present))) h.front_is)
 
 -- the present bytes are the kept record
-present-whole : (text content : List ℕ) (dropped : List (List ℕ)) → (h : HasRead text dropped (Holding content)) → marking h.present ≡ with_records (content ∷ []) (none_whole [] None)
+present-whole : (text content : List ℕ) (dropped : List (List ℕ)) → (h : HasRead text dropped (Holding content))
+    → marking h.present ≡ with_records (content ∷ []) (none_whole [] None)
 present-whole text content dropped h =
     let front : first_record h.present ≡ Whole content [] = ap first_record (sym (append-nil h.present)) ∙ sym (h.reads []) in
     marking-whole h.present content [] front ∙ ap (with_records (content ∷ [])) marking-nil
 
-same-dropped : (text : List ℕ) (dropped : List (List ℕ)) (now : Progress) → HasRead text dropped now → HasRead text (dropped ++ []) now
+same-dropped : (text : List ℕ) (dropped : List (List ℕ)) (now : Progress) → HasRead text dropped now
+    → HasRead text (dropped ++ []) now
 same-dropped text dropped now h = subst (λ (d : List (List ℕ)). HasRead text d now) (sym (append-nil dropped)) h
 
-pub HasRead-next : (text : List ℕ) (dropped : List (List ℕ)) (old : Progress) → HasRead text dropped old → HasRead text (dropped ++ kept_by old) (after_next old)
+pub HasRead-next : (text : List ℕ) (dropped : List (List ℕ)) (old : Progress) → HasRead text dropped old
+    → HasRead text (dropped ++ kept_by old) (after_next old)
 HasRead-next text dropped (InHead fragments content bytes) h = same-dropped text dropped (InHead fragments content bytes) h
-HasRead-next text dropped (InFragment fragments content last left) h = same-dropped text dropped (InFragment fragments content last left) h
+HasRead-next text dropped (InFragment fragments content last left) h =
+    same-dropped text dropped (InFragment fragments content last left) h
 HasRead-next text dropped (Refusing fault) h = same-dropped text dropped (Refusing fault) h
 HasRead-next text dropped (Holding content) h = record {
   front = text;
@@ -123,10 +135,13 @@ HasRead-next text dropped (Holding content) h = record {
 }
 
 -- the kept record was dropped
-pub HasRead-dropped : (text content items : List ℕ) (dropped : List (List ℕ)) (old : Progress) → Holding content ≡ old → items ≡ [] → HasRead text dropped old → HasRead text (dropped ++ kept_by old) (InHead MOST_FRAGMENTS items [])
-HasRead-dropped text content items dropped old is none h =
+pub HasRead-dropped : (text content : List ℕ) (dropped : List (List ℕ)) (old new : Progress) → Holding content ≡ old
+    → new ≡ fresh → HasRead text dropped old → HasRead text (dropped ++ kept_by old) new
+HasRead-dropped text content dropped old new is begun h =
     let h' = subst (HasRead text dropped) (sym is) h in
-    subst (λ (p : Progress). HasRead text (dropped ++ kept_by p) (InHead MOST_FRAGMENTS items [])) is (rw none (HasRead-next text dropped (Holding content) h'))
+    let next = subst (λ (p : Progress). HasRead text (dropped ++ kept_by p) fresh) is
+    (HasRead-next text dropped (Holding content) h') in
+    subst (HasRead text (dropped ++ kept_by old)) (sym begun) next
 
 -- ---- what was read
 
@@ -141,18 +156,23 @@ refused-some text fault e = elim (cases_lt (length text) 4) [
 follows-unfinished : (text : List ℕ) (dropped : List (List ℕ)) (now : Progress) (h : HasRead text dropped now) → IsUnfinished now
     → kept_by now ≡ [] → refusal_of now ≡ None → is_at_edge now ≡ (taken_of now == 0) → FollowsMarking text dropped now
 follows-unfinished text dropped now h un kept refusal edge =
-    let here : marking text ≡ with_records dropped (none_whole h.present None) = marking-read text dropped now h ∙ ap (with_records dropped) (marking-partial h.present (h.partial un)) in
+    let here : marking text ≡ with_records dropped (none_whole h.present None) = marking-read text dropped now h
+    ∙ ap (with_records dropped) (marking-partial h.present (h.partial un)) in
     record {
       records = ap (λ (m : Marking). m.records) here ∙ ap (λ (r : List (List ℕ)). dropped ++ r) (sym kept);
       refusal = ap (λ (m : Marking). m.refusal) here ∙ sym refusal;
       edge = edge ∙ (ap (λ (n : ℕ). n == 0) (h.taken un) ∙ ap (λ (m : Marking). length m.rest == 0) (sym here));
     }
 
-pub HasRead-follows : (text : List ℕ) (dropped : List (List ℕ)) (now : Progress) → HasRead text dropped now → FollowsMarking text dropped now
-HasRead-follows text dropped (InHead fragments content bytes) h = follows-unfinished text dropped (InHead fragments content bytes) h tt refl refl refl
-HasRead-follows text dropped (InFragment fragments content last left) h = follows-unfinished text dropped (InFragment fragments content last left) h tt refl refl refl
+pub HasRead-follows : (text : List ℕ) (dropped : List (List ℕ)) (now : Progress) → HasRead text dropped now
+    → FollowsMarking text dropped now
+HasRead-follows text dropped (InHead fragments content bytes) h =
+    follows-unfinished text dropped (InHead fragments content bytes) h tt refl refl refl
+HasRead-follows text dropped (InFragment fragments content last left) h =
+    follows-unfinished text dropped (InFragment fragments content last left) h tt refl refl refl
 HasRead-follows text dropped (Holding content) h =
-    let here : marking text ≡ with_records dropped (with_records (content ∷ []) (none_whole [] None)) = marking-read text dropped (Holding content) h ∙ ap (with_records dropped) (present-whole text content dropped h) in
+    let here : marking text ≡ with_records dropped (with_records (content ∷ []) (none_whole [] None)) =
+    marking-read text dropped (Holding content) h ∙ ap (with_records dropped) (present-whole text content dropped h) in
     record {
       records = ap (λ (m : Marking). m.records) here;
       refusal = ap (λ (m : Marking). m.refusal) here;
@@ -160,7 +180,8 @@ HasRead-follows text dropped (Holding content) h =
     }
 HasRead-follows text dropped (Refusing fault) h =
     let front : first_record h.present ≡ Refused fault = ap first_record (sym (append-nil h.present)) ∙ sym (h.reads []) in
-    let here : marking text ≡ with_records dropped (none_whole h.present (Some fault)) = marking-read text dropped (Refusing fault) h ∙ ap (with_records dropped) (marking-refused h.present fault front) in
+    let here : marking text ≡ with_records dropped (none_whole h.present (Some fault)) =
+    marking-read text dropped (Refusing fault) h ∙ ap (with_records dropped) (marking-refused h.present fault front) in
     record {
       records = ap (λ (m : Marking). m.records) here;
       refusal = ap (λ (m : Marking). m.refusal) here;
@@ -182,8 +203,10 @@ HasRead-runs (Next ∷ calls) before text first dropped old now h r =
     let all = HasRead-runs calls before text (first ++ kept_by old) r.0 (after_next old) now next r.2 in
     rw (r.1, ← append_assoc first (kept_by old) r.0) all
 
-pub runs-follow : (calls : List Call) (text : List ℕ) (dropped : List (List ℕ)) (now : Progress) → Runs fresh calls text dropped now → FollowsMarking text dropped now
-runs-follow calls text dropped now r = HasRead-follows text dropped now (HasRead-runs calls [] text [] dropped fresh now HasRead-fresh r)
+pub runs-follow : (calls : List Call) (text : List ℕ) (dropped : List (List ℕ)) (now : Progress)
+    → Runs fresh calls text dropped now → FollowsMarking text dropped now
+runs-follow calls text dropped now r =
+    HasRead-follows text dropped now (HasRead-runs calls [] text [] dropped fresh now HasRead-fresh r)
 
 pub runs-same : (calls calls' : List Call) (text : List ℕ) (dropped dropped' : List (List ℕ)) (now now' : Progress)
     → Runs fresh calls text dropped now → Runs fresh calls' text dropped' now' → IsSameReading dropped now dropped' now'

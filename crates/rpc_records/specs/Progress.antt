@@ -1,5 +1,6 @@
 -- How far a reader of records is, and what that says of the text that comes next.
-use Rattle.std.specs.Prelude.{◌≡◌, ℕ, ◌+◌, ◌-◌, ◌*◌, Bool, false, ◌==◌, List, [], ◌∷◌, ◌++◌, length, take, Result, Ok, Err, Option, Some, None, IfOk}
+use Rattle.std.specs.Prelude.{◌≡◌, ℕ, ◌+◌, ◌-◌, ◌*◌, Bool, false, ◌==◌, List, [], ◌∷◌, ◌++◌, length, take, Result, Ok, Err}
+use Rattle.std.specs.Prelude.{Option, Some, None, IfOk}
 use Rattle.rpc_records.specs.declared.fault.RecordFault.{RecordFault}
 use Rattle.rpc_records.specs.declared.limits.TheConstants.{MOST_FRAGMENTS}
 use Rattle.rpc_records.specs.Reading.{Reading, fragment_at, record_at}
@@ -58,15 +59,18 @@ refusal_of _ = None
 
 -- a record that the piece makes whole is kept, and what stands behind it in the piece is not taken
 abbrev pub KeepsWhole : Progress → List ℕ → Result ℕ RecordFault → Progress → Type 0
-KeepsWhole old piece result new = (content rest : List ℕ) → reading_of old piece ≡ Whole content rest → (result ≡ Ok (length piece - length rest)) × (new ≡ Holding content)
+KeepsWhole old piece result new = (content rest : List ℕ) → reading_of old piece ≡ Whole content rest
+    → (result ≡ Ok (length piece - length rest)) × (new ≡ Holding content)
 
 -- a piece that leaves the record unfinished is taken to its end
 abbrev pub TakesAll : Progress → List ℕ → Result ℕ RecordFault → Progress → Type 0
-TakesAll old piece result new = reading_of old piece ≡ Partial → (result ≡ Ok (length piece)) × (taken_of new ≡ taken_of old + length piece)
+TakesAll old piece result new = reading_of old piece ≡ Partial
+    → (result ≡ Ok (length piece)) × (taken_of new ≡ taken_of old + length piece)
 
 -- a piece with a head that breaks a limit is refused, and every later one
 abbrev pub Refuses : Progress → List ℕ → Result ℕ RecordFault → Progress → Type 0
-Refuses old piece result new = (fault : RecordFault) → reading_of old piece ≡ Refused fault → (result ≡ Err fault) × (new ≡ Refusing fault)
+Refuses old piece result new = (fault : RecordFault) → reading_of old piece ≡ Refused fault
+    → (result ≡ Err fault) × (new ≡ Refusing fault)
 
 -- what is taken of the piece belongs to the present record, which goes on behind it
 abbrev pub GoesOn : Progress → List ℕ → Result ℕ RecordFault → Progress → Type 0

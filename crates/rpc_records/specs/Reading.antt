@@ -1,7 +1,8 @@
 -- One record at the front of a text (RFC 5531, section 11). A record is one or more fragments. Each
 -- stands behind a head of four bytes, whose top bit says whether the fragment is the last one, and
 -- whose other 31 bits are its length. The record's content is that of its fragments, one after another.
-use Rattle.std.specs.Prelude.{ℕ, zero, suc, ◌+◌, ◌^◌, ◌%◌, Bool, nat_lt, nat_le, if◌then◌else◌, List, [], ◌++◌, length, take, drop}
+use Rattle.std.specs.Prelude.{ℕ, zero, suc, ◌+◌, ◌^◌, ◌%◌, Bool, nat_lt, nat_le, if◌then◌else◌, List, [], ◌++◌, length, take}
+use Rattle.std.specs.Prelude.{drop}
 use Rattle.byteorder.specs.Endian.{big_number}
 use Rattle.xdr_grammar.specs.Items.{word}
 use Rattle.rpc_records.specs.declared.fault.RecordFault.{RecordFault}

@@ -4,7 +4,8 @@ use Rattle.rpc_records.specs.declared.fault.RecordFault.{RecordFault}
 use Rattle.rpc_records.specs.Reading.{first_record}
 use Rattle.rpc_records.specs.Reading.Reading.{Partial}
 use Rattle.rpc_records.specs.Marking.{marking}
-use Rattle.rpc_records.specs.Progress.{Progress, IsUnfinished, reading_of, taken_of, is_at_edge, kept_by, refusal_of, Feeds, after_next}
+use Rattle.rpc_records.specs.Progress.{Progress, IsUnfinished, reading_of, taken_of, is_at_edge, kept_by, refusal_of, Feeds}
+use Rattle.rpc_records.specs.Progress.{after_next}
 
 -- the bytes of a piece that count as taken: those that the answer tells, and at a refusal all
 abbrev pub taken_part : Result ℕ RecordFault → List ℕ → List ℕ
@@ -45,7 +46,8 @@ pub data Call : Type 0 where
 abbrev pub Runs : Progress → List Call → List ℕ → List (List ℕ) → Progress → Type 0
 Runs old [] text dropped now = (text ≡ []) × (dropped ≡ []) × (now ≡ old)
 Runs old (Feed piece result ∷ calls) text dropped now =
-    (new : Progress) × (others : List ℕ) × Feeds old piece result new × (text ≡ taken_part result piece ++ others) × Runs new calls others dropped now
+    (new : Progress) × (others : List ℕ) × Feeds old piece result new × (text ≡ taken_part result piece ++ others)
+    × Runs new calls others dropped now
 Runs old (Next ∷ calls) text dropped now =
     (others : List (List ℕ)) × (dropped ≡ kept_by old ++ others) × Runs (after_next old) calls text others now
 

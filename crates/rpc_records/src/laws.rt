@@ -34,7 +34,8 @@ pub fn a_record_in_fragments_is_read()
 
 /// What is read as a record was written as one, in fragments.
 pub fn what_is_read_was_written()
-    ensures { (text content rest : List ℕ) → AreBytes text → first_record text ≡ Whole content rest → IsInFragments text content rest }
+    ensures { (text content rest : List ℕ) → AreBytes text → first_record text ≡ Whole content rest
+        → IsInFragments text content rest }
 {}
 
 /// Records that are written one after another are those of the text, and then come those of what
@@ -75,7 +76,8 @@ pub fn the_rest_is_no_record()
 
 /// What a reader has read, kept and refused is what record marking of the text says.
 pub fn a_reader_follows_the_marking()
-    ensures { (text : List ℕ) (dropped : List (List ℕ)) (now : Progress) → HasRead text dropped now → FollowsMarking text dropped now }
+    ensures { (text : List ℕ) (dropped : List (List ℕ)) (now : Progress) → HasRead text dropped now
+        → FollowsMarking text dropped now }
 {}
 
 /// Calls of a reader in any order, on any pieces: what they dropped, kept and refused is what record

@@ -4,6 +4,15 @@
 //! of the stream as a whole, and that a stream is refused exactly at the head that breaks a limit.
 //! After `Records::new` it takes no memory.
 //! It stands on `xdr_grammar` for words as bytes, and on `nfs3_types` for want of memory.
+//!
+//! ```
+//! let mut records = Records::new(alloc)?;
+//! let taken = records.feed(piece)?;
+//! if let Some(content) = records.whole() {
+//!     answer(content);
+//!     records.next();
+//! }
+//! ```
 #![tactic(auto)]
 
 mod fault;
@@ -22,6 +31,3 @@ pub use laws::{
 pub use limits::{MOST_BYTES, MOST_FRAGMENTS};
 pub use nfs3_types::NoMemory;
 pub use records::Records;
-
-#[cfg(test)]
-mod tests;

@@ -1,8 +1,10 @@
 //! The reader of records.
 
-ghost use Rattle.std.specs.Prelude.{◌≡◌, ℕ, ◌+◌, ◌-◌, ◌<◌, ◌≤◌, ◌↔◌, [], ◌++◌, List, length, take, vec_capacity, min, Ok, Err, IfOk, IfSome, IsNone, IsTrue};
+ghost use Rattle.std.specs.Prelude.{◌≡◌, ℕ, ◌+◌, ◌-◌, ◌<◌, ◌≤◌, ◌↔◌, [], ◌++◌, List, length, take, vec_capacity, min, Ok, Err};
+ghost use Rattle.std.specs.Prelude.{IfOk, IfSome, IsNone, IsTrue};
 ghost use Rattle.rpc_records.specs.Reading.Reading.{Partial};
-ghost use Rattle.rpc_records.specs.Progress.{IsUnfinished, fresh, reading_of, refusal_of, taken_of, is_at_edge, kept_by, after_next, KeepsWhole, TakesAll, Refuses, GoesOn};
+ghost use Rattle.rpc_records.specs.Progress.{IsUnfinished, fresh, reading_of, refusal_of, taken_of, is_at_edge, kept_by};
+ghost use Rattle.rpc_records.specs.Progress.{after_next, KeepsWhole, TakesAll, Refuses, GoesOn};
 ghost use Rattle.rpc_records.specs.Progress.Progress.{Holding, Refusing};
 ghost use Rattle.rpc_records.specs.declared.fault.RecordFault.{RecordFault};
 ghost use Rattle.rpc_records.specs.Stream.{HasRead, taken_part};
@@ -38,7 +40,8 @@ impl Model for Records {
 
     ghost view = { λ records. progress_at records.stage records.fragments records.content.items records.head };
 
-    ghost invariant = { λ records. (MOST_BYTES ≤ vec_capacity records.content) × (records.fragments ≤ MOST_FRAGMENTS) × IsStage records.stage records.fragments (length records.content.items) × (length records.head ≡ 4) };
+    ghost invariant = { λ records. (MOST_BYTES ≤ vec_capacity records.content) × (records.fragments ≤ MOST_FRAGMENTS)
+        × IsStage records.stage records.fragments (length records.content.items) × (length records.head ≡ 4) };
 }
 
 /// Puts the front of the piece behind the first bytes of the head, as much as fits, and tells how many
@@ -82,7 +85,8 @@ impl Records {
         ensures for_good { (fault : RecordFault) → self.old ≡ Refusing fault → (result ≡ Err fault) × (self.new ≡ self.old) }
 
         // So what was read of a stream grows by what was taken.
-        ensures stream { (text : List ℕ) (dropped : List (List ℕ)) → HasRead text dropped self.old → HasRead (text ++ taken_part result piece.now) dropped self.new }
+        ensures stream { (text : List ℕ) (dropped : List (List ℕ)) → HasRead text dropped self.old
+            → HasRead (text ++ taken_part result piece.now) dropped self.new }
     {
         let mut taken = 0;
         while taken < piece.len() && self.is_unfinished() {
@@ -155,15 +159,25 @@ impl Records {
         }
     }
 
+    /// Makes the reader a new one, at the beginning of another text. It takes no memory, so the room of one
+    /// reader serves one stream after another.
+    pub fn begin(&mut self)
+        ensures fresh { self.new ≡ fresh }
+        ensures stream { HasRead [] [] self.new }
+    {
+        self.content.clear();
+        self.fragments = MOST_FRAGMENTS;
+        self.stage = Stage::Head(0);
+    }
+
     /// Drops the kept record, if there is one.
     pub fn next(&mut self)
         ensures next { self.new ≡ after_next self.old }
-        ensures stream { (text : List ℕ) (dropped : List (List ℕ)) → HasRead text dropped self.old → HasRead text (dropped ++ kept_by self.old) self.new }
+        ensures stream { (text : List ℕ) (dropped : List (List ℕ)) → HasRead text dropped self.old
+            → HasRead text (dropped ++ kept_by self.old) self.new }
     {
         if let Stage::Whole = self.stage {
-            self.content.clear();
-            self.fragments = MOST_FRAGMENTS;
-            self.stage = Stage::Head(0);
+            self.begin();
         }
     }
 

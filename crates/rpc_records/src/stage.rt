@@ -48,7 +48,8 @@ pub(crate) fn behind_head(head: u32, size: usize, fragments: usize) -> Stage
     requires fragments { fragments ≤ MOST_FRAGMENTS }
     ensures reading { (mark content bytes text : List ℕ) → length mark ≡ 4 → head_of mark ≡ head → length content ≡ size
         → reading_of (progress_at result (fragments - 1) content bytes) text ≡ record_at fragments content (mark ++ text) }
-    ensures taken { (content bytes : List ℕ) → length content ≡ size → IsUnfinished (progress_at result (fragments - 1) content bytes)
+    ensures taken { (content bytes : List ℕ) → length content ≡ size
+        → IsUnfinished (progress_at result (fragments - 1) content bytes)
         → taken_of (progress_at result (fragments - 1) content bytes) ≡ 4 * (MOST_FRAGMENTS - fragments) + size + 4 }
     ensures stage { IsStage result (fragments - 1) size }
 {

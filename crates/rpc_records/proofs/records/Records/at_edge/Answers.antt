@@ -7,4 +7,5 @@ pub returns-else-taken-eq0 : goal.returns-else-taken-eq0
 returns-else-taken-eq0 c =
     let i = c.self.inside in
     ne_eqb c.in-Head.taken 0 c.if-taken-eq0.false
-    ∙ at_edge-head i.stage c.in-Head.taken i.fragments i.content.items i.head c.args.self.now c.self.view_is c.in-Head.is (omega arith) (omega arith)
+    ∙ at_edge-head i.stage c.in-Head.taken i.fragments i.content.items i.head c.args.self.now c.self.view_is c.in-Head.is
+    (omega arith) (omega arith)

@@ -15,7 +15,9 @@ loop-taken-preserved c =
     let unfinished : IsUnfinished c.loop-taken.self = c.is_unfinished.ensures.0 c.if-is_unfinished.true in
     record {
       within = omega (arith, step.within, length-take (length piece - n) (drop n piece), length-drop n piece);
-      reading = goes_on-step c.args.self.now c.loop-taken.self c.step-taken.new.self piece n c.step-taken.result before.within before.reading step.reading;
+      reading =
+          goes_on-step c.args.self.now c.loop-taken.self c.step-taken.new.self piece n c.step-taken.result before.within
+          before.reading step.reading;
       count = λ now. omega (arith, step.taken now, before.count unfinished);
     }
 
@@ -25,10 +27,12 @@ returns-in-Some c =
     let n = c.loop-taken.taken in
     let all : IsUnfinished c.loop-taken.self → n ≡ length c.args.piece.now = λ unfinished.
     elim c.loop-taken-test.branch [
-      | then-loop-taken-test+else-is_unfinished w ↦ let is : w.is_unfinished.result ≡ true = w.is_unfinished.ensures.1 unfinished in absurd cc
+      | then-loop-taken-test+else-is_unfinished w ↦ let is : w.is_unfinished.result ≡ true =
+          w.is_unfinished.ensures.1 unfinished in absurd cc
       | else-loop-taken-test w ↦ omega arith
     ] in
-    let feeds = feeds-from c.args.self.now c.loop-taken.self c.args.piece.now n (Err c.in-Some.fault) (ap (λ (r : Option RecordFault). answer_of r n) c.in-Some.ensures.refusal)
+    let feeds = feeds-from c.args.self.now c.loop-taken.self c.args.piece.now n (Err c.in-Some.fault)
+    (ap (λ (r : Option RecordFault). answer_of r n) c.in-Some.ensures.refusal)
     before.within before.reading before.count c.in-Some.ensures.partial all in
     record {
       whole = feeds.whole;
@@ -38,7 +42,8 @@ returns-in-Some c =
       within = tt;
       kept = feeds-kept c.args.self.now c.loop-taken.self c.args.piece.now (Err c.in-Some.fault) feeds;
       for_good = feeds-for_good c.args.self.now c.loop-taken.self c.args.piece.now (Err c.in-Some.fault) feeds;
-      stream = λ text dropped read. HasRead-feed text dropped c.args.self.now c.loop-taken.self c.args.piece.now (Err c.in-Some.fault) read feeds;
+      stream = λ text dropped read. HasRead-feed text dropped c.args.self.now c.loop-taken.self c.args.piece.now
+          (Err c.in-Some.fault) read feeds;
     }
 
 pub returns-in-None : goal.returns-in-None
@@ -47,10 +52,12 @@ returns-in-None c =
     let n = c.loop-taken.taken in
     let all : IsUnfinished c.loop-taken.self → n ≡ length c.args.piece.now = λ unfinished.
     elim c.loop-taken-test.branch [
-      | then-loop-taken-test+else-is_unfinished w ↦ let is : w.is_unfinished.result ≡ true = w.is_unfinished.ensures.1 unfinished in absurd cc
+      | then-loop-taken-test+else-is_unfinished w ↦ let is : w.is_unfinished.result ≡ true =
+          w.is_unfinished.ensures.1 unfinished in absurd cc
       | else-loop-taken-test w ↦ omega arith
     ] in
-    let feeds = feeds-from c.args.self.now c.loop-taken.self c.args.piece.now n (Ok n) (ap (λ (r : Option RecordFault). answer_of r n) c.in-None.ensures.refusal)
+    let feeds = feeds-from c.args.self.now c.loop-taken.self c.args.piece.now n (Ok n)
+    (ap (λ (r : Option RecordFault). answer_of r n) c.in-None.ensures.refusal)
     before.within before.reading before.count c.in-None.ensures.partial all in
     record {
       whole = feeds.whole;
@@ -60,5 +67,6 @@ returns-in-None c =
       within = before.within;
       kept = feeds-kept c.args.self.now c.loop-taken.self c.args.piece.now (Ok n) feeds;
       for_good = feeds-for_good c.args.self.now c.loop-taken.self c.args.piece.now (Ok n) feeds;
-      stream = λ text dropped read. HasRead-feed text dropped c.args.self.now c.loop-taken.self c.args.piece.now (Ok n) read feeds;
+      stream = λ text dropped read. HasRead-feed text dropped c.args.self.now c.loop-taken.self c.args.piece.now
+          (Ok n) read feeds;
     }

@@ -8,5 +8,6 @@ use Rattle.rpc_records.proofs.records.Records.next.Goals as goal
 pub returns-in-Whole-clause-stream : goal.returns-in-Whole-clause-stream
 returns-in-Whole-clause-stream c = λ text dropped h.
     let i = c.self.inside in
-    let view : Holding i.content.items ≡ c.args.self.now = ap (λ (s : Stage). progress_at s i.fragments i.content.items i.head) (sym c.in-Whole.is) ∙ c.self.view_is in
-    HasRead-dropped text i.content.items c.clear.new.self.items dropped c.args.self.now view c.clear.ensures.items h
+    let view : Holding i.content.items ≡ c.args.self.now =
+    ap (λ (s : Stage). progress_at s i.fragments i.content.items i.head) (sym c.in-Whole.is) ∙ c.self.view_is in
+    HasRead-dropped text i.content.items dropped c.args.self.now c.begin.new.self view c.begin.ensures.fresh h

@@ -9,5 +9,6 @@ returns-in_default c =
     let i = c.self.inside in
     record {
       refusal = unrefused i.stage i.fragments i.content.items i.head c.in_default.not-Refused ∙ ap refusal_of c.self.view_is;
-      partial = subst (λ (p : Progress). IsUnfinished p → reading_of p [] ≡ Partial) c.self.view_is (unfinished-partial i.stage i.fragments i.content.items i.head c.self.invariant.2);
+      partial = subst (λ (p : Progress). IsUnfinished p → reading_of p [] ≡ Partial) c.self.view_is
+          (unfinished-partial i.stage i.fragments i.content.items i.head c.self.invariant.2);
     }

@@ -21,7 +21,8 @@ returns-else-taken-n-lt4-clause-reading c = λ more.
     let stage = c.behind_head-self-inside.result in
     let reads = c.behind_head-self-inside.ensures.reading head content head more (omega arith) (search rules) (search rules) in
     let here = step-head fragments n taken content old head part more (omega arith) c.fill_head-n.ensures.head in
-    let view : InHead fragments content (take taken old) ≡ c.args.self.now = ap (λ (s : Stage). progress_at s fragments content old) (sym c.in-Head.is) ∙ c.self.view_is in
+    let view : InHead fragments content (take taken old) ≡ c.args.self.now =
+    ap (λ (s : Stage). progress_at s fragments content old) (sym c.in-Head.is) ∙ c.self.view_is in
     ap (λ (k : ℕ). reading_of (progress_at stage k content head) more) c.saturating_sub-self-inside.ensures
     ∙ (reads ∙ (here ∙ ap (λ (p : Progress). reading_of p (part ++ more)) view))
 
@@ -38,6 +39,7 @@ returns-in-Fragment-clause-reading c = λ more.
     let items : c.extend_from_slice.new.self.items ≡ content ++ part = grind (arith, common_steps) in
     let reads = c.in_fragment-self-inside.ensures.reading fragments (content ++ part) head more in
     let here = step-fragment fragments n left last content c.args.piece.now more (omega arith) (omega arith) in
-    let view : InFragment fragments content last left ≡ c.args.self.now = ap (λ (s : Stage). progress_at s fragments content head) (sym c.in-Fragment.is) ∙ c.self.view_is in
+    let view : InFragment fragments content last left ≡ c.args.self.now =
+    ap (λ (s : Stage). progress_at s fragments content head) (sym c.in-Fragment.is) ∙ c.self.view_is in
     ap (λ (t : List ℕ). reading_of (progress_at stage fragments t head) more) items
     ∙ (reads ∙ (here ∙ ap (λ (p : Progress). reading_of p (part ++ more)) view))
