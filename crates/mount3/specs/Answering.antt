@@ -3,7 +3,8 @@
 use Rattle.std.specs.Prelude.{◌≡◌, ℕ, ◌==◌, if◌then◌else◌, List, [], ◌∷◌, ◌++◌, codes, bytes_eq, Ok}
 use Rattle.xdr_grammar.specs.Whole.{whole}
 use Rattle.nfs3_types.specs.Handles.{handle}
-use Rattle.mount3.specs.Protocol.{arguments, MountResult, Mount, Refusal, mount_result, mount_list, exports}
+use Rattle.mount3.specs.declared.procedures.TheConstants.{MNT, DUMP, EXPORT}
+use Rattle.mount3.specs.Protocol.{arguments, MountResult, Mount, Refusal, mount_result, mount_list, Export, exports}
 
 -- the exported directory, which is the root of the file system: file 1 of the live tree, which is snapshot 0
 abbrev pub root : List ℕ
@@ -20,12 +21,16 @@ mount fsid path =
     then Mount (record { handle = root_handle fsid; flavors = 1 ∷ 0 ∷ [] })
     else Refusal 2
 
--- the body of the reply: MNT is 1, DUMP 2 and EXPORT 5; NULL, 0, UMNT, 3, and UMNTALL, 4, answer nothing
+-- EXPORT lists the one directory, with no groups, which means to all hosts
+abbrev pub exported : List Export
+exported = record { directory = root; groups = [] } ∷ []
+
+-- the body of the reply; NULL, UMNT and UMNTALL answer nothing
 unfoldable pub body : ℕ → ℕ → List ℕ → List ℕ
 body fsid procedure path =
-    if procedure == 1 then mount_result.spelling (mount fsid path)
-    else (if procedure == 2 then mount_list.spelling []
-    else (if procedure == 5 then exports.spelling (record { directory = root; groups = [] } ∷ [])
+    if procedure == MNT then mount_result.spelling (mount fsid path)
+    else (if procedure == DUMP then mount_list.spelling []
+    else (if procedure == EXPORT then exports.spelling exported
     else []))
 
 -- the arguments were whole, and the buffer gained the body

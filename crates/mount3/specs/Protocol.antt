@@ -1,5 +1,6 @@
 -- The MOUNT protocol, version 3 (RFC 1813, appendix I): what calls take and what results say.
 use Rattle.std.specs.Prelude.{ℕ, ◌-◌, ◌^◌, ◌==◌, ◌||◌, Bool, List, [], Option, Some, None}
+use Rattle.mount3.specs.declared.procedures.TheConstants.{MNT, UMNT}
 use Rattle.xdr_grammar.specs.Grammar.{Grammar, ◌at◌, ◌>>=◌, done}
 use Rattle.xdr_grammar.specs.Items.{word, opaque, string}
 use Rattle.xdr_grammar.specs.Choices.{either, in_case}
@@ -16,9 +17,8 @@ name = string 255
 
 -- ---- arguments
 
--- MNT, 1, and UMNT, 3, take a path
 abbrev pub takes_path : ℕ → Bool
-takes_path procedure = (procedure == 1) || (procedure == 3)
+takes_path procedure = (procedure == MNT) || (procedure == UMNT)
 
 -- what a procedure takes: a path or nothing, which is no path
 unfoldable pub arguments : ℕ → Grammar (List ℕ)

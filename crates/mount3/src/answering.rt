@@ -1,30 +1,21 @@
 //! Answering a call.
 
-ghost use Rattle.std.specs.Prelude.{◌≡◌, ◌≢◌, ◌↔◌, ◌+◌, ◌-◌, ◌^◌, ◌<◌, ◌≤◌, ◌++◌, List, [], ◌∷◌, Err, vec_len, vec_capacity, OnOk, OnErr, IsOk};
+ghost use Rattle.std.specs.Prelude.{◌≡◌, ◌≢◌, ◌↔◌, ◌+◌, ◌-◌, ◌^◌, ◌<◌, ◌≤◌, ◌++◌, List, [], ◌∷◌, Err, vec_len, vec_capacity};
+ghost use Rattle.std.specs.Prelude.{OnOk, OnErr, IsOk};
 ghost use Rattle.xdr_grammar.specs.declared.fault.XdrFault.{XdrFault};
 ghost use Rattle.xdr_grammar.specs.Items.{word, opaque};
 ghost use Rattle.xdr_grammar.specs.Arrays.{array};
 ghost use Rattle.xdr_grammar.specs.Reading.{GivesWhole};
 ghost use Rattle.xdr_grammar.specs.Whole.{whole};
+ghost use Rattle.xdr_grammar.specs.Writing.{Puts};
 ghost use Rattle.mount3.specs.Protocol.{arguments, mount_result, mount_list, exports};
-ghost use Rattle.mount3.specs.Answering.{Answers, body, mount, root, root_handle};
+ghost use Rattle.mount3.specs.Answering.{Answers, body, exported, mount, root_handle};
 
+use crate::procedures::{DUMP, EXPORT, MNT, UMNT};
 use nfs3_types::NoMemory;
 use thiserror::Error;
 use xdr::{Reader, put_hyper, put_opaque, put_truth, put_word};
 use xdr_grammar::XdrFault;
-
-/// The procedure MNT.
-const MNT: u32 = 1;
-
-/// The procedure DUMP.
-const DUMP: u32 = 2;
-
-/// The procedure UMNT.
-const UMNT: u32 = 3;
-
-/// The procedure EXPORT.
-const EXPORT: u32 = 5;
 
 /// The greatest length of a path in bytes (MNTPATHLEN).
 const MNTPATHLEN: u32 = 1024;
@@ -84,11 +75,9 @@ fn read_path(procedure: u32, args: &[u8]) -> Result<&[u8], XdrFault>
 }
 
 /// Puts the root's handle.
+#[tactic(auto, using(crate::proofs::Bodies::root_handle_size))]
 fn put_handle(out: &mut Vec<u8>, exports: Exports) -> Result<(), NoMemory>
-    ensures ok { OnOk result (out.new.items ≡ out.old.items ++ (opaque 64).spelling (root_handle exports.fsid)) }
-    ensures len { OnOk result (vec_len out.new ≡ vec_len out.old + 28) }
-    ensures room { vec_len out.old + 28 ≤ vec_capacity out.old → IsOk result }
-    ensures capacity { vec_capacity out.old ≤ vec_capacity out.new }
+    ensures { Puts (opaque 64) (root_handle exports.fsid) out.old out.new result }
 {
     put_word(out, HANDLE)?;
     put_hyper(out, exports.fsid)?;
@@ -97,11 +86,9 @@ fn put_handle(out: &mut Vec<u8>, exports: Exports) -> Result<(), NoMemory>
 }
 
 /// Puts the flavors of credentials that are taken.
+#[tactic(auto, using(crate::proofs::Bodies::flavors_size))]
 fn put_flavors(out: &mut Vec<u8>) -> Result<(), NoMemory>
-    ensures ok { OnOk result (out.new.items ≡ out.old.items ++ (array (2 ^ 32 - 1) word).spelling (1 ∷ 0 ∷ [])) }
-    ensures len { OnOk result (vec_len out.new ≡ vec_len out.old + 12) }
-    ensures room { vec_len out.old + 12 ≤ vec_capacity out.old → IsOk result }
-    ensures capacity { vec_capacity out.old ≤ vec_capacity out.new }
+    ensures { Puts (array (2 ^ 32 - 1) word) (1 ∷ 0 ∷ []) out.old out.new result }
 {
     put_word(out, 2)?;
     put_word(out, AUTH_SYS)?;
@@ -111,10 +98,7 @@ fn put_flavors(out: &mut Vec<u8>) -> Result<(), NoMemory>
 /// Puts MNT's result for a path.
 #[tactic(auto, unfolding(crate::specs::Protocol::mount_result, crate::specs::Protocol::mounted))]
 fn put_mount(out: &mut Vec<u8>, exports: Exports, path: &[u8]) -> Result<(), NoMemory>
-    ensures ok { OnOk result (out.new.items ≡ out.old.items ++ mount_result.spelling (mount exports.fsid path.now)) }
-    ensures small { OnOk result (vec_len out.new ≤ vec_len out.old + 44) }
-    ensures room { vec_len out.old + 44 ≤ vec_capacity out.old → IsOk result }
-    ensures capacity { vec_capacity out.old ≤ vec_capacity out.new }
+    ensures { Puts mount_result (mount exports.fsid path.now) out.old out.new result }
 {
     if path != b"/".as_slice() {
         return put_word(out, MNT3ERR_NOENT);
@@ -125,12 +109,9 @@ fn put_mount(out: &mut Vec<u8>, exports: Exports, path: &[u8]) -> Result<(), NoM
 }
 
 /// Puts EXPORT's result.
-#[tactic(auto, unfolding(crate::specs::Protocol::exports, crate::specs::Protocol::export, crate::specs::Protocol::dirpath, xdr_grammar::specs::Entries::entries))]
+#[tactic(auto, using(crate::proofs::Bodies::exported_size))]
 fn put_exports(out: &mut Vec<u8>) -> Result<(), NoMemory>
-    ensures ok { OnOk result (out.new.items ≡ out.old.items ++ exports.spelling (record { directory = root; groups = [] } ∷ [])) }
-    ensures small { OnOk result (vec_len out.new ≤ vec_len out.old + 44) }
-    ensures room { vec_len out.old + 20 ≤ vec_capacity out.old → IsOk result }
-    ensures capacity { vec_capacity out.old ≤ vec_capacity out.new }
+    ensures { Puts exports exported out.old out.new result }
 {
     put_truth(out, true)?;
     put_opaque(out, b"/".as_slice())?;
@@ -141,16 +122,13 @@ fn put_exports(out: &mut Vec<u8>) -> Result<(), NoMemory>
 /// Puts DUMP's result, a list of nothing.
 #[tactic(auto, unfolding(crate::specs::Protocol::mount_list, xdr_grammar::specs::Entries::entries))]
 fn put_mounts(out: &mut Vec<u8>) -> Result<(), NoMemory>
-    ensures ok { OnOk result (out.new.items ≡ out.old.items ++ mount_list.spelling []) }
-    ensures small { OnOk result (vec_len out.new ≤ vec_len out.old + 44) }
-    ensures room { vec_len out.old + 4 ≤ vec_capacity out.old → IsOk result }
-    ensures capacity { vec_capacity out.old ≤ vec_capacity out.new }
+    ensures { Puts mount_list [] out.old out.new result }
 {
     put_truth(out, false)
 }
 
 /// Puts the body of the reply.
-#[tactic(auto, unfolding(crate::specs::Answering::body))]
+#[tactic(auto, using(crate::proofs::Bodies::mount_size, crate::proofs::Bodies::exports_size, crate::proofs::Bodies::mounts_size), unfolding(crate::specs::Answering::body))]
 fn put_body(
     out: &mut Vec<u8>,
     procedure: u32,
@@ -183,17 +161,15 @@ pub fn answer_mount(
     requires { procedure ≤ 5 }
     ensures ok { OnOk result (Answers e.now.fsid procedure args.now out.old.items out.new.items) }
     ensures small { OnOk result (vec_len out.new ≤ vec_len out.old + 44) }
-    ensures garbage { (fault : XdrFault) → (result ≡ Err (MountFault.Garbage fault)) ↔ (whole (arguments procedure) args.now ≡ Err fault) }
+    ensures garbage { (fault : XdrFault) → (result ≡ Err (MountFault.Garbage fault))
+        ↔ (whole (arguments procedure) args.now ≡ Err fault) }
     ensures err { OnErr result (out.new.items ≡ out.old.items) }
     ensures room { vec_len out.old + 44 ≤ vec_capacity out.old → result ≢ Err MountFault.NoMemory }
     ensures capacity { vec_capacity out.old ≤ vec_capacity out.new }
 {
-    let path = match read_path(procedure, args) {
-        Ok(path) => path,
-        Err(fault) => return Err(MountFault::Garbage(fault)),
+    let path = read_path(procedure, args).map_err(MountFault::Garbage)?;
+    let Ok(()) = put_body(out, procedure, *e, path) else {
+        return Err(MountFault::NoMemory);
     };
-    match put_body(out, procedure, *e, path) {
-        Ok(()) => Ok(()),
-        Err(NoMemory) => Err(MountFault::NoMemory),
-    }
+    Ok(())
 }

@@ -1,5 +1,6 @@
 -- Credentials: their laws, and words that are read where they stand.
-use Rattle.std.proofs.Common.{◌≡◌, ℕ, zero, suc, ◌+◌, ◌*◌, ◌/◌, ◌<◌, ◌≤◌, List, ◌∷◌, length, take, drop, Ok, Err, Result, true, Bor, subst, ⊎_elim, refl, sym, ◌∙◌, ap, arith, rules}
+use Rattle.std.proofs.Common.{◌≡◌, ℕ, zero, suc, ◌+◌, ◌*◌, ◌/◌, ◌<◌, ◌≤◌, List, ◌∷◌, length, take, drop, Ok, Err, Result, true}
+use Rattle.std.proofs.Common.{Bor, subst, ⊎_elim, refl, sym, ◌∙◌, ap, arith, rules}
 use Rattle.std.specs.Prelude.{nat_le}
 use Rattle.std.proofs.lemmas.List.{length-drop, length-take-le, drop-drop, drop-take, take-take}
 use Rattle.std.proofs.lemmas.Bool.{cases_lt}
@@ -50,7 +51,8 @@ items_read : (n : ℕ) (bytes : List ℕ) → 4 * n ≤ length bytes → read_it
 unfolding read_items
 items_read zero bytes h = refl
 items_read (suc n) bytes h =
-    rw (word_reads bytes (omega arith)) (rw (items_read n (drop 4 bytes) (rw length-drop (omega arith))) (rw (drop_more bytes n) refl))
+    rw (word_reads bytes (omega arith))
+    (rw (items_read n (drop 4 bytes) (rw length-drop (omega arith))) (rw (drop_more bytes n) refl))
 
 items_short : (n : ℕ) (bytes : List ℕ) → length bytes < 4 * n → read_items n word bytes ≡ Err Short
 unfolding read_items
@@ -62,7 +64,8 @@ items_short (suc n) bytes h =
 
 words_front : (n : ℕ) (bytes : List ℕ) → words n (take (4 * n) bytes) ≡ words n bytes
 words_front zero bytes = refl
-words_front (suc n) bytes = rw (take_less bytes n, take_first bytes n) (ap (λ ws. big_number 4 (take 4 bytes) ∷ ws) (words_front n (drop 4 bytes)))
+words_front (suc n) bytes =
+    rw (take_less bytes n, take_first bytes n) (ap (λ ws. big_number 4 (take 4 bytes) ∷ ws) (words_front n (drop 4 bytes)))
 
 no_padding : (n : ℕ) → padding (4 * n) ≡ 0
 no_padding n = rw (mul-mod_right 4 n) refl
@@ -73,7 +76,8 @@ words_in_front n bytes h =
     let long : length (take (4 * n) bytes) / 4 ≡ n = rw (length-take-le (4 * n) bytes h) (mul-div_cancel_left n (omega arith)) in
     ap (λ k. words k (take (4 * n) bytes)) long ∙ words_front n bytes
 
-fixed_reads : (n : ℕ) (bytes : List ℕ) → 4 * n ≤ length bytes → (fixed (4 * n)).read bytes ≡ Ok (take (4 * n) bytes, drop (4 * n) bytes)
+fixed_reads : (n : ℕ) (bytes : List ℕ) → 4 * n ≤ length bytes
+    → (fixed (4 * n)).read bytes ≡ Ok (take (4 * n) bytes, drop (4 * n) bytes)
 unfolding fixed
 fixed_reads n bytes h = rw (no_padding n) (search (rules, nat_tests))
 
@@ -81,17 +85,21 @@ fixed_short : (n : ℕ) (bytes : List ℕ) → length bytes < 4 * n → (fixed (
 unfolding fixed
 fixed_short n bytes h = rw (no_padding n) (search (rules, nat_tests))
 
-array_reads : (n : ℕ) (bytes rest : List ℕ) → word.read bytes ≡ Ok (n, rest) → n ≤ 16 → 4 * n ≤ length rest → (array 16 word).read bytes ≡ Ok (words n rest, drop (4 * n) rest)
+array_reads : (n : ℕ) (bytes rest : List ℕ) → word.read bytes ≡ Ok (n, rest) → n ≤ 16 → 4 * n ≤ length rest
+    → (array 16 word).read bytes ≡ Ok (words n rest, drop (4 * n) rest)
 unfolding items
 array_reads n bytes rest e few h = rw e (rw (le_test n few) (rw (items_read n rest h) refl))
 
-array_short : (n : ℕ) (bytes rest : List ℕ) → word.read bytes ≡ Ok (n, rest) → n ≤ 16 → length rest < 4 * n → (array 16 word).read bytes ≡ Err Short
+array_short : (n : ℕ) (bytes rest : List ℕ) → word.read bytes ≡ Ok (n, rest) → n ≤ 16 → length rest < 4 * n
+    → (array 16 word).read bytes ≡ Err Short
 unfolding items
 array_short n bytes rest e few h = rw e (rw (le_test n few) (rw (items_short n rest h) refl))
 
 -- so many words are read as bytes
-pub gives_words : (n : ℕ) (bytes rest new : List ℕ) (result : Result (Bor (List ℕ)) XdrFault) → word.read bytes ≡ Ok (n, rest) → n ≤ 16
-    → Gives (fixed (4 * n)) (λ part. part.now) rest new result → Gives (array 16 word) (λ gids. words_in gids.now) bytes new result
+pub gives_words : (n : ℕ) (bytes rest new : List ℕ) (result : Result (Bor (List ℕ)) XdrFault) → word.read bytes ≡ Ok (n, rest)
+    → n ≤ 16
+    → Gives (fixed (4 * n)) (λ part. part.now) rest new result
+    → Gives (array 16 word) (λ gids. words_in gids.now) bytes new result
 gives_words n bytes rest new (Ok part) e few h =
     ⊎_elim (λ (lt : length rest < 4 * n). absurd (let short = fixed_short n rest lt in cc))
     (λ (ge : 4 * n ≤ length rest).

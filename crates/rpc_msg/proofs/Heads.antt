@@ -1,5 +1,6 @@
 -- What reading the head of a message gives, by the length of the text.
-use Rattle.std.proofs.Common.{◌≡◌, ℕ, ◌+◌, ◌<◌, ◌≤◌, ◌≢◌, List, length, take, drop, Result, Ok, Err, refl, sym, ◌∙◌, ap, arith, rules}
+use Rattle.std.proofs.Common.{◌≡◌, ℕ, ◌+◌, ◌<◌, ◌≤◌, ◌≢◌, List, length, take, drop, Result, Ok, Err, refl, sym, ◌∙◌, ap, arith}
+use Rattle.std.proofs.Common.{rules}
 use Rattle.std.proofs.lemmas.List.{length-drop}
 use Rattle.std.proofs.lemmas.Bool.Decides.{nat_tests}
 use Rattle.byteorder.specs.Endian.{big_number}
@@ -38,7 +39,12 @@ head_reads text h =
     let h3 = four_more (drop 4 (drop 4 text)) 12 h2 in
     let h4 = four_more (drop 4 (drop 4 (drop 4 text))) 8 h3 in
     let h5 = four_more (drop 4 (drop 4 (drop 4 (drop 4 text)))) 4 h4 in
-    rw (word_reads text (omega arith)) (rw (word_reads (drop 4 text) (omega arith)) (rw (word_reads (drop 4 (drop 4 text)) (omega arith)) (rw (word_reads (drop 4 (drop 4 (drop 4 text))) (omega arith)) (rw (word_reads (drop 4 (drop 4 (drop 4 (drop 4 text)))) (omega arith)) (rw (word_reads (drop 4 (drop 4 (drop 4 (drop 4 (drop 4 text))))) h5) refl)))))
+    rw (word_reads text (omega arith))
+    (rw (word_reads (drop 4 text) (omega arith))
+    (rw (word_reads (drop 4 (drop 4 text)) (omega arith))
+    (rw (word_reads (drop 4 (drop 4 (drop 4 text))) (omega arith))
+    (rw (word_reads (drop 4 (drop 4 (drop 4 (drop 4 text)))) (omega arith))
+    (rw (word_reads (drop 4 (drop 4 (drop 4 (drop 4 (drop 4 text))))) h5) refl)))))
 
 -- a text that is long enough has a head
 pub no_fault : (text : List ℕ) (fault : XdrFault) → 24 ≤ length text → message_head.read text ≡ Err fault → ⊥
@@ -48,9 +54,12 @@ no_fault text fault h e = let ok = head_reads text h in cc
 same_pair : (p q : MessageHead × List ℕ) (read : Result (MessageHead × List ℕ) XdrFault) → read ≡ Ok p → read ≡ Ok q → p ≡ q
 same_pair p q read e f = cc
 
-pub kind_read : (text : List ℕ) (m : MessageHead) (rest : List ℕ) → 24 ≤ length text → message_head.read text ≡ Ok (m, rest) → m.kind ≡ kind_of text
+pub kind_read : (text : List ℕ) (m : MessageHead) (rest : List ℕ) → 24 ≤ length text → message_head.read text ≡ Ok (m, rest)
+    → m.kind ≡ kind_of text
 unfolding kind_of
-kind_read text m rest h e = ap (λ (p : MessageHead × List ℕ). p.0.kind) (same_pair (m, rest) (words_of text, behind text) (message_head.read text) e (head_reads text h))
+kind_read text m rest h e =
+    ap (λ (p : MessageHead × List ℕ). p.0.kind)
+    (same_pair (m, rest) (words_of text, behind text) (message_head.read text) e (head_reads text h))
 
 pub message_head-laws : Laws message_head
 unfolding message_head
@@ -62,7 +71,8 @@ size_is m = refl
 
 -- a text that is too short has no head
 pub short_has_none : (text : List ℕ) → length text < 24 → HasNoCall text
-short_has_none text h m rest e = absurd (let size = size_is m in omega (arith, takes_size message_head message_head-laws text m rest e))
+short_has_none text h m rest e =
+    absurd (let size = size_is m in omega (arith, takes_size message_head message_head-laws text m rest e))
 
 -- a second word that is not 0 begins no call
 pub other_has_none : (text : List ℕ) → 24 ≤ length text → kind_of text ≢ 0 → HasNoCall text

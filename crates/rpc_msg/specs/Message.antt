@@ -34,4 +34,11 @@ HasNoCall text = (m : MessageHead) (rest : List ℕ) → message_head.read text 
 
 -- what a call's head says
 abbrev pub view : CallHead → MessageHead
-view head = record { xid = head.xid; kind = 0; rpcvers = head.rpcvers; prog = head.prog; vers = head.vers; procedure = head.procedure }
+view head = record {
+  xid = head.xid;
+  kind = 0;
+  rpcvers = head.rpcvers;
+  prog = head.prog;
+  vers = head.vers;
+  procedure = head.procedure;
+}

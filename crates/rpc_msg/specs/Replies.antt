@@ -35,15 +35,30 @@ accepted_reply = do
 
 -- the reply to this call, with a verifier of flavor AUTH_NONE
 abbrev pub accepted : ℕ → ℕ → AcceptedReply
-accepted xid stat = record { head = record { xid = xid; kind = 1; stat = 0 }; verifier = record { flavor = 0; body = [] }; stat = stat }
+accepted xid stat = record {
+  head = record { xid = xid; kind = 1; stat = 0 };
+  verifier = record { flavor = 0; body = [] };
+  stat = stat;
+}
 
--- the mark of a record of so many bytes in one fragment, and the head of the reply in it
-unfoldable pub head_bytes : ℕ → ℕ → ℕ → List ℕ
-head_bytes size xid stat = word.spelling (2 ^ 31 + size) ++ reply_head.spelling (record { xid = xid; kind = 1; stat = stat })
+-- an item behind the mark of the record that it begins
+pub record Marked (A : Type 0) : Type 0 where
+  pub mark : ℕ
+  pub item : A
+
+unfoldable pub behind_mark : {A : Type 0} → Grammar A → Grammar (Marked A)
+behind_mark g = do
+  mark ← word at (λ m. m.mark)
+  item ← g at (λ m. m.item)
+  done (record { mark = mark; item = item })
+
+-- the mark of a record of so many bytes in one fragment, and the head of a reply in it
+abbrev pub marked_head : ℕ → ℕ → ℕ → Marked ReplyHead
+marked_head size xid stat = record { mark = 2 ^ 31 + size; item = record { xid = xid; kind = 1; stat = stat } }
 
 -- what stands before the results of an accepted reply, of so many bytes of results: the mark and the head
-unfoldable pub accepted_head : ℕ → ℕ → ℕ → List ℕ
-accepted_head size xid stat = word.spelling (2 ^ 31 + (24 + size)) ++ accepted_reply.spelling (accepted xid stat)
+abbrev pub accepted_head : ℕ → ℕ → ℕ → Marked AcceptedReply
+accepted_head size xid stat = record { mark = 2 ^ 31 + (24 + size); item = accepted xid stat }
 
 -- the record of an accepted reply with these results
 unfoldable pub accepted_record : ℕ → ℕ → List ℕ → List ℕ
@@ -52,4 +67,5 @@ accepted_record xid stat results = marked (accepted_reply.spelling (accepted xid
 -- the record of a denied reply (rejected_reply): RPC_MISMATCH, 0, with the lowest and the highest version, or
 -- AUTH_ERROR, 1, with what is wrong
 unfoldable pub denied_record : ℕ → ℕ → List ℕ → List ℕ
-denied_record xid count words = marked (reply_head.spelling (record { xid = xid; kind = 1; stat = 1 }) ++ (items count word).spelling (take count words))
+denied_record xid count words =
+    marked (reply_head.spelling (record { xid = xid; kind = 1; stat = 1 }) ++ (items count word).spelling (take count words))

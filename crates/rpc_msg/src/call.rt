@@ -54,7 +54,14 @@ struct Words {
 
 #[tactic(auto, unfolding(crate::specs::Message::message_head))]
 fn read_words(reader: &mut Reader<'_>) -> Result<Words, XdrFault>
-    ensures { Gives message_head (λ w. record { xid = w.xid; kind = w.kind; rpcvers = w.rpcvers; prog = w.prog; vers = w.vers; procedure = w.procedure }) reader.old reader.new result }
+    ensures { Gives message_head (λ w. record {
+      xid = w.xid;
+      kind = w.kind;
+      rpcvers = w.rpcvers;
+      prog = w.prog;
+      vers = w.vers;
+      procedure = w.procedure;
+    }) reader.old reader.new result }
 {
     Ok(Words {
         xid: reader.word()?,

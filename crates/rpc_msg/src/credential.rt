@@ -99,7 +99,13 @@ struct Parms<'a> {
 #[tactic(auto, unfolding(crate::specs::Auth::auth_sys))]
 fn read_parms<'a>(reader: &mut Reader<'a>) -> Result<Parms<'a>, XdrFault>
     ensures whole { IfOk result (λ a. length a.gids.now % 4 ≡ 0) }
-    ensures gives { Gives auth_sys (λ a. record { stamp = a.stamp; machinename = a.machinename.now; uid = a.uid; gid = a.gid; gids = words_in a.gids.now }) reader.old reader.new result }
+    ensures gives { Gives auth_sys (λ a. record {
+      stamp = a.stamp;
+      machinename = a.machinename.now;
+      uid = a.uid;
+      gid = a.gid;
+      gids = words_in a.gids.now;
+    }) reader.old reader.new result }
 {
     Ok(Parms {
         stamp: reader.word()?,
@@ -113,7 +119,13 @@ fn read_parms<'a>(reader: &mut Reader<'a>) -> Result<Parms<'a>, XdrFault>
 /// What the body of a credential of flavor AUTH_SYS says.
 fn parms_of(body: &[u8]) -> Result<Parms<'_>, XdrFault>
     ensures whole { IfOk result (λ a. length a.gids.now % 4 ≡ 0) }
-    ensures gives { GivesWhole (λ a. record { stamp = a.stamp; machinename = a.machinename.now; uid = a.uid; gid = a.gid; gids = words_in a.gids.now }) (whole auth_sys body.now) result }
+    ensures gives { GivesWhole (λ a. record {
+      stamp = a.stamp;
+      machinename = a.machinename.now;
+      uid = a.uid;
+      gid = a.gid;
+      gids = words_in a.gids.now;
+    }) (whole auth_sys body.now) result }
 {
     let mut reader = Reader::new(body);
     let parms = read_parms(&mut reader)?;
@@ -125,7 +137,8 @@ fn parms_of(body: &[u8]) -> Result<Parms<'_>, XdrFault>
 #[tactic(auto, unfolding(crate::specs::Auth::caller_of, crate::specs::Auth::words_in))]
 fn who_of(flavor: u32, body: &[u8]) -> Result<Who<'_>, CredFault>
     ensures whole { IfOk result (λ who. length who.gids.now % 4 ≡ 0) }
-    ensures ok { IfOk result (λ who. caller_of (record { flavor = flavor; body = body.now }) ≡ Ok (record { uid = who.uid; gid = who.gid; gids = words_in who.gids.now })) }
+    ensures ok { IfOk result (λ who. caller_of (record { flavor = flavor; body = body.now })
+        ≡ Ok (record { uid = who.uid; gid = who.gid; gids = words_in who.gids.now })) }
     ensures err { IfErr result (λ fault. caller_of (record { flavor = flavor; body = body.now }) ≡ Err fault) }
 {
     match flavor {
@@ -152,7 +165,8 @@ fn who_of(flavor: u32, body: &[u8]) -> Result<Who<'_>, CredFault>
 #[tactic(auto, unfolding(crate::specs::Auth::credential_of))]
 pub fn read_cred(tail: &[u8]) -> Result<(Who<'_>, &[u8]), CredFault>
     ensures whole { IfOk result (λ r. length r.0.gids.now % 4 ≡ 0) }
-    ensures who { IfOk result (λ r. credential_of tail.now ≡ Ok ((record { uid = r.0.uid; gid = r.0.gid; gids = words_in r.0.gids.now }), r.1.now)) }
+    ensures who { IfOk result (λ r. credential_of tail.now
+        ≡ Ok ((record { uid = r.0.uid; gid = r.0.gid; gids = words_in r.0.gids.now }), r.1.now)) }
     ensures fault { IfErr result (λ fault. credential_of tail.now ≡ Err fault) }
 {
     let mut reader = Reader::new(tail);

@@ -1,8 +1,11 @@
 //! The record of a reply.
 
-ghost use Rattle.std.specs.Prelude.{◌≡◌, ◌+◌, ◌-◌, ◌*◌, ◌^◌, ◌<◌, ◌≤◌, ◌++◌, length, ℕ, List, vec_len, vec_capacity, OnOk, OnErr, IsOk};
+ghost use Rattle.std.specs.Prelude.{◌≡◌, ◌+◌, ◌-◌, ◌*◌, ◌^◌, ◌<◌, ◌≤◌, ◌++◌, length, ℕ, List, vec_len, vec_capacity, OnOk, OnErr};
+ghost use Rattle.std.specs.Prelude.{IsOk};
 ghost use Rattle.xdr_grammar.specs.Laws.{Laws};
-ghost use Rattle.rpc_msg.specs.Replies.{accepted_reply, head_bytes, accepted_head, accepted_record, denied_record};
+ghost use Rattle.xdr_grammar.specs.Writing.{Puts};
+ghost use Rattle.rpc_msg.specs.Replies.{behind_mark, reply_head, marked_head, accepted_reply, accepted_head, accepted_record};
+ghost use Rattle.rpc_msg.specs.Replies.{denied_record};
 
 use nfs3_types::NoMemory;
 use xdr::put_word;
@@ -29,13 +32,10 @@ const ACCEPTED_HEAD: usize = 24;
 const DENIED_HEAD: usize = 12;
 
 /// Puts the head of a record of `size` bytes in one fragment, and of the reply in it.
-#[tactic(auto, unfolding(crate::specs::Replies::head_bytes, crate::specs::Replies::reply_head))]
+#[tactic(auto, unfolding(crate::specs::Replies::behind_mark, crate::specs::Replies::reply_head, xdr_grammar::specs::Items::word))]
 fn put_head(out: &mut Vec<u8>, size: u32, xid: u32, stat: u32) -> Result<(), NoMemory>
     requires { size < 2 ^ 31 }
-    ensures ok { OnOk result (out.new.items ≡ out.old.items ++ head_bytes size xid stat) }
-    ensures len { OnOk result (vec_len out.new ≡ vec_len out.old + 16) }
-    ensures room { vec_len out.old + 16 ≤ vec_capacity out.old → IsOk result }
-    ensures capacity { vec_capacity out.old ≤ vec_capacity out.new }
+    ensures { Puts (behind_mark reply_head) (marked_head size xid stat) out.old out.new result }
 {
     put_word(out, LAST_FRAGMENT + size)?;
     put_word(out, xid)?;
@@ -44,12 +44,10 @@ fn put_head(out: &mut Vec<u8>, size: u32, xid: u32, stat: u32) -> Result<(), NoM
 }
 
 /// Puts the mark and the head of an accepted reply whose results have `size` bytes.
+#[tactic(auto, using(crate::proofs::ReplyHeads::accepted_head_size))]
 fn put_accepted_head(out: &mut Vec<u8>, size: u32, xid: u32, stat: u32) -> Result<(), NoMemory>
     requires { size < 2 ^ 31 - 24 }
-    ensures ok { OnOk result (out.new.items ≡ out.old.items ++ accepted_head size xid stat) }
-    ensures len { OnOk result (vec_len out.new ≡ vec_len out.old + 28) }
-    ensures room { vec_len out.old + 28 ≤ vec_capacity out.old → IsOk result }
-    ensures capacity { vec_capacity out.old ≤ vec_capacity out.new }
+    ensures { Puts (behind_mark accepted_reply) (accepted_head size xid stat) out.old out.new result }
 {
     put_head(out, ACCEPTED_HEAD as u32 + size, xid, MSG_ACCEPTED)?;
     put_word(out, AUTH_NONE)?;
@@ -60,6 +58,7 @@ fn put_accepted_head(out: &mut Vec<u8>, size: u32, xid: u32, stat: u32) -> Resul
 /// Adds what stands before the results of an accepted reply whose results have `size` bytes: the mark, and
 /// the head with a verifier of flavor AUTH_NONE and how the call went (accept_stat). So many bytes that are
 /// put behind it make it the whole record. At `NoMemory` the buffer holds what it held.
+#[tactic(auto, using(crate::proofs::ReplyHeads::accepted_head_long))]
 pub fn write_accepted_head(
     xid: u32,
     stat: u32,
@@ -79,6 +78,7 @@ pub fn write_accepted_head(
 }
 
 /// Puts an accepted reply into room that was reserved.
+#[tactic(auto, using(crate::proofs::ReplyHeads::accepted_head_long))]
 fn put_accepted(out: &mut Vec<u8>, xid: u32, stat: u32, results: &[u8]) -> Result<(), NoMemory>
     requires { length results.now < 2 ^ 31 - 24 }
     ensures ok { OnOk result (out.new.items ≡ out.old.items ++ accepted_record xid stat results.now) }
@@ -105,6 +105,7 @@ pub fn write_accepted(xid: u32, stat: u32, body: &[u8], out: &mut Vec<u8>) -> Re
 }
 
 /// Puts a denied reply into room that was reserved.
+#[tactic(auto, using(crate::proofs::ReplyHeads::marked_head_long), unfolding(xdr_grammar::specs::Items::word))]
 fn put_denied(out: &mut Vec<u8>, xid: u32, words: &[u32], count: u32) -> Result<(), NoMemory>
     requires three { length words.now ≡ 3 }
     requires least { 2 ≤ count }

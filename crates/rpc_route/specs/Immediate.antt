@@ -1,6 +1,6 @@
 -- What is answered without the tree: the checks of a record in their order, of which the first that fits
 -- decides (RFC 5531, section 9; RFC 1813, section 3.3 and appendix I).
-use Rattle.std.specs.Prelude.{ℕ, ◌==◌, nat_le, if◌then◌else◌, List, [], ◌∷◌, ◌++◌, Result, Ok, Err}
+use Rattle.std.specs.Prelude.{ℕ, ◌==◌, nat_le, if◌then◌else◌, List, [], ◌∷◌, ◌++◌, Option, Some, None, Result, Ok, Err}
 use Rattle.xdr_grammar.specs.declared.fault.XdrFault.{XdrFault}
 use Rattle.xdr_grammar.specs.Items.{word}
 use Rattle.xdr_grammar.specs.Whole.{whole}
@@ -12,8 +12,14 @@ use Rattle.rpc_msg.specs.Message.{MessageHead, message_head}
 use Rattle.rpc_msg.specs.Auth.{Caller, credential_of}
 use Rattle.rpc_msg.specs.Replies.{accepted_record, denied_record}
 use Rattle.nfs3_types.specs.declared.status.Status.TheVariants.{NotSupp}
-use Rattle.nfs3_types.specs.Calls.{Call, call_of}
-use Rattle.nfs3_types.specs.Replies.{Failure, nothing_told, result_of}
+use Rattle.nfs3_types.specs.declared.procedure.Procedure.{Procedure}
+use Rattle.nfs3_types.specs.declared.procedure.Procedure.TheVariants as procedures
+use Rattle.nfs3_types.specs.declared.call.CallOver.TheVariants.{Null, Mknod}
+use Rattle.nfs3_types.specs.Procedures.{procedure_named}
+use Rattle.nfs3_types.specs.Calls.{Call}
+use Rattle.nfs3_types.specs.Calls.{arguments as call_arguments}
+use Rattle.nfs3_types.specs.Replies.{Failure, telling, nothing_in, result}
+use Rattle.mount3.specs.declared.procedures.TheConstants.{EXPORT}
 use Rattle.mount3.specs.Protocol.{arguments}
 use Rattle.mount3.specs.Answering.{body}
 
@@ -60,20 +66,19 @@ auth_error xid fault = Replied (denied_record xid 2 (1 ∷ auth_stat fault ∷ 0
 
 -- ---- the two programs
 
--- MKNOD is answered NFS3ERR_NOTSUPP without a look at its handle
+-- MKNOD is answered NFS3ERR_NOTSUPP without a look at its handle, and of the change nothing is told
 unfoldable pub not_supported : List ℕ
-not_supported = (result_of 11).spelling (Failure NotSupp (nothing_told 11))
+not_supported = (result procedures.Mknod).spelling (Failure NotSupp (nothing_in (telling procedures.Mknod)))
 
--- NFS version 3: NULL, 0, and MKNOD, 11, need no tree
-abbrev pub of_call : ℕ → Caller → ℕ → Call → Immediate
-of_call xid caller procedure lent =
-    if procedure == 0 then Replied (accepted_record xid 0 [])
-    else (if procedure == 11 then Replied (accepted_record xid 0 not_supported)
-    else Needs xid caller lent)
+-- NFS version 3: NULL and MKNOD need no tree
+abbrev pub of_call : ℕ → Caller → Call → Immediate
+of_call xid caller Null = Replied (accepted_record xid 0 [])
+of_call xid caller (Mknod _) = Replied (accepted_record xid 0 not_supported)
+of_call xid caller call = Needs xid caller call
 
-abbrev pub of_nfs : ℕ → Caller → ℕ → Result Call XdrFault → Immediate
-of_nfs xid caller procedure (Ok lent) = of_call xid caller procedure lent
-of_nfs xid caller procedure (Err fault) = garbage xid
+abbrev pub of_nfs : ℕ → Caller → Result Call XdrFault → Immediate
+of_nfs xid caller (Ok call) = of_call xid caller call
+of_nfs xid caller (Err fault) = garbage xid
 
 -- MOUNT needs no tree
 abbrev pub of_mount : ℕ → ℕ → ℕ → Result (List ℕ) XdrFault → Immediate
@@ -82,16 +87,21 @@ of_mount fsid xid procedure (Err fault) = garbage xid
 
 -- ---- the checks behind the credential
 
+-- by the procedure whose number it is, if there is one
+abbrev pub of_procedure : ℕ → Caller → List ℕ → Option Procedure → Immediate
+of_procedure xid caller args (Some procedure) = of_nfs xid caller (whole (call_arguments procedure) args)
+of_procedure xid caller args None = no_procedure xid
+
 unfoldable pub in_nfs : MessageHead → Caller → List ℕ → Immediate
 in_nfs m caller args =
-    if m.vers == 3
-    then (if nat_le m.procedure 21 then of_nfs m.xid caller m.procedure (whole (call_of m.procedure) args) else no_procedure m.xid)
-    else version_mismatch m.xid
+    if m.vers == 3 then of_procedure m.xid caller args (procedure_named m.procedure) else version_mismatch m.xid
 
+-- EXPORT is the last procedure of MOUNT
 unfoldable pub in_mount : ℕ → MessageHead → List ℕ → Immediate
 in_mount fsid m args =
     if m.vers == 3
-    then (if nat_le m.procedure 5 then of_mount fsid m.xid m.procedure (whole (arguments m.procedure) args) else no_procedure m.xid)
+    then (if nat_le m.procedure EXPORT then of_mount fsid m.xid m.procedure
+    (whole (arguments m.procedure) args) else no_procedure m.xid)
     else version_mismatch m.xid
 
 -- program 100003 is NFS and 100005 is MOUNT

@@ -5,6 +5,16 @@
 //! record of the reply; [`seal_bare`] and [`seal_system`] do so into room that was reserved, with no memory.
 //! It stands on `rpc_msg` for heads, credentials and reply records, on `nfs3_args` for calls, on `nfs3_res` for
 //! results, and on `mount3` for the other program.
+//!
+//! ```
+//! match route(record, &exports, &mut out)? {
+//!     Routed::Ready => {} // `out` gained the whole record of the reply
+//!     Routed::Nfs { xid, who, call } => {
+//!         let reply = tree.answer(&who, &call)?;
+//!         seal(xid, &reply, &mut out)?;
+//!     }
+//! }
+//! ```
 #![tactic(auto)]
 
 mod routed;
@@ -12,8 +22,5 @@ mod routing;
 mod seals;
 
 pub use routed::{RouteFault, Routed};
-pub use routing::route;
-pub use seals::{seal, seal_bare, seal_system};
-
-#[cfg(test)]
-mod tests;
+pub use routing::{LONGEST_IMMEDIATE, route};
+pub use seals::{ACCEPTED_HEAD, LONGEST_BARE, seal, seal_bare, seal_system};

@@ -1,20 +1,24 @@
 //! Routing a record.
 
-ghost use Rattle.std.specs.Prelude.{◌≡◌, ◌-◌, ◌^◌, ◌<◌, ◌≤◌, length, ◌%◌, vec_capacity};
+ghost use Rattle.std.specs.Prelude.{◌≡◌, ◌≢◌, ℕ, ◌+◌, ◌-◌, ◌*◌, ◌^◌, ◌<◌, ◌≤◌, length, ◌%◌, vec_len, vec_capacity, Err, IsOk};
+ghost use Rattle.rpc_route.specs.declared.routed.RouteFault.{RouteFault};
 ghost use Rattle.rpc_msg.specs.Message.{view};
 ghost use Rattle.xdr_grammar.specs.Whole.{whole};
 ghost use Rattle.rpc_msg.specs.Replies.{accepted_record, denied_record};
-ghost use Rattle.nfs3_types.specs.Calls.{call_of};
-ghost use Rattle.rpc_route.specs.Immediate.{Replied, of_nfs, of_mount, in_nfs, in_mount, in_program, behind_head, immediate_reply};
+ghost use Rattle.xdr_grammar.specs.Reading.{GivesWhole};
+ghost use Rattle.nfs3_types.specs.Calls.{arguments as call_arguments};
+ghost use Rattle.rpc_route.specs.Immediate.{Replied, of_nfs, of_mount, in_nfs, in_mount, in_program, behind_head};
+ghost use Rattle.rpc_route.specs.Immediate.{immediate_reply};
 ghost use Rattle.rpc_route.specs.Immediate.{auth_stat as stat_of};
 ghost use Rattle.mount3.specs.Protocol.{arguments};
 ghost use Rattle.rpc_route.specs.Routing.{Routes, RoutesRecord, caller_of};
 
 use crate::routed::{RouteFault, Routed};
-use mount3::{Exports, MountFault, answer_mount};
+use mount3::{EXPORT, Exports, MountFault, answer_mount};
 use nfs3_args::read_args;
-use nfs3_types::{Call, CallOver, NoMemory};
+use nfs3_types::{Call, CallOver, Procedure};
 use rpc_msg::{CallHead, CredFault, Who, read_call, read_cred, write_accepted, write_denied};
+use xdr_grammar::XdrFault;
 
 /// The version of RPC that is taken.
 const RPC_VERSION: u32 = 2;
@@ -28,14 +32,11 @@ const MOUNT_PROGRAM: u32 = 100_005;
 /// The version of both programs that is taken.
 const VERSION: u32 = 3;
 
-/// The last procedure of NFS.
-const LAST_NFS: u32 = 21;
-
-/// The last procedure of MOUNT.
-const LAST_MOUNT: u32 = 5;
-
 /// The longest body of a reply of MOUNT in bytes.
 const LONGEST_MOUNT: usize = 44;
+
+/// How many bytes the longest record has that is answered without the tree: that of MOUNT's longest body.
+pub const LONGEST_IMMEDIATE: usize = 72;
 
 /// The call succeeded (RFC 5531, section 9, accept_stat).
 const SUCCESS: u32 = 0;
@@ -66,13 +67,15 @@ fn accept<'a>(
     out: &mut Vec<u8>,
 ) -> Result<Routed<'a>, RouteFault>
     requires { length results.now < 2 ^ 31 - 24 }
-    ensures routes { Routes (Replied (accepted_record xid stat results.now)) xid out.old.items out.new.items result }
+    ensures routes { Routes (Replied (accepted_record xid stat results.now))
+        xid out.old.items out.new.items result }
+    ensures room { vec_len out.old + (28 + length results.now) ≤ vec_capacity out.old → IsOk result }
     ensures capacity { vec_capacity out.old ≤ vec_capacity out.new }
 {
-    match write_accepted(xid, stat, results, out) {
-        Ok(()) => Ok(Routed::Ready),
-        Err(NoMemory) => Err(RouteFault::NoMemory(xid)),
-    }
+    let Ok(()) = write_accepted(xid, stat, results, out) else {
+        return Err(RouteFault::NoMemory(xid));
+    };
+    Ok(Routed::Ready)
 }
 
 /// Answers by a denial with these words.
@@ -84,39 +87,48 @@ fn deny<'a>(
 ) -> Result<Routed<'a>, RouteFault>
     requires least { 2 ≤ count }
     requires most { count ≤ 3 }
-    ensures routes { Routes (Replied (denied_record xid count words)) xid out.old.items out.new.items result }
+    ensures routes { Routes (Replied (denied_record xid count words))
+        xid out.old.items out.new.items result }
+    ensures room { vec_len out.old + (16 + 4 * count) ≤ vec_capacity out.old → IsOk result }
     ensures capacity { vec_capacity out.old ≤ vec_capacity out.new }
 {
-    match write_denied(xid, words, count, out) {
-        Ok(()) => Ok(Routed::Ready),
-        Err(NoMemory) => Err(RouteFault::NoMemory(xid)),
-    }
+    let Ok(()) = write_denied(xid, words, count, out) else {
+        return Err(RouteFault::NoMemory(xid));
+    };
+    Ok(Routed::Ready)
+}
+
+/// Reads a whole call of NFS from the bytes of its arguments.
+fn read_nfs(procedure: Procedure, args: &[u8]) -> Result<Call<'_>, XdrFault>
+    ensures { GivesWhole (λ call. call) (whole (call_arguments procedure) args.now) result }
+{
+    read_args(procedure.number(), args)
 }
 
 /// Routes a call of NFS by its arguments.
 fn route_nfs<'a>(
     xid: u32,
-    procedure: u32,
+    procedure: Procedure,
     who: &Who<'a>,
     args: &'a [u8],
     out: &mut Vec<u8>,
 ) -> Result<Routed<'a>, RouteFault>
-    requires procedure { procedure ≤ 21 }
-    requires whole { length who.now.gids.now % 4 ≡ 0 }
-    ensures routes { Routes (of_nfs xid (caller_of who.now) procedure (whole (call_of procedure) args.now)) xid out.old.items out.new.items result }
+    requires { length who.now.gids.now % 4 ≡ 0 }
+    ensures routes { Routes (of_nfs xid (caller_of who.now) (whole (call_arguments procedure) args.now))
+        xid out.old.items out.new.items result }
+    ensures room { vec_len out.old + LONGEST_IMMEDIATE ≤ vec_capacity out.old → IsOk result }
     ensures capacity { vec_capacity out.old ≤ vec_capacity out.new }
 {
-    let lent = match read_args(procedure, args) {
-        Ok(lent) => lent,
-        Err(_) => return accept(xid, GARBAGE_ARGS, b"".as_slice(), out),
+    let Ok(call) = read_nfs(procedure, args) else {
+        return accept(xid, GARBAGE_ARGS, b"".as_slice(), out);
     };
-    match procedure {
-        0 => accept(xid, SUCCESS, b"".as_slice(), out),
-        11 => accept(xid, SUCCESS, NOT_SUPPORTED, out),
-        _ => Ok(Routed::Nfs {
+    match call {
+        CallOver::Null => accept(xid, SUCCESS, b"".as_slice(), out),
+        CallOver::Mknod(_) => accept(xid, SUCCESS, NOT_SUPPORTED, out),
+        call => Ok(Routed::Nfs {
             xid,
             who: *who,
-            call: lent,
+            call,
         }),
     }
 }
@@ -131,7 +143,9 @@ fn route_mount<'a>(
     out: &mut Vec<u8>,
 ) -> Result<Routed<'a>, RouteFault>
     requires { procedure ≤ 5 }
-    ensures routes { Routes (of_mount e.now.fsid xid procedure (whole (arguments procedure) args.now)) xid out.old.items out.new.items result }
+    ensures routes { Routes (of_mount e.now.fsid xid procedure (whole (arguments procedure) args.now))
+        xid out.old.items out.new.items result }
+    ensures room { vec_len out.old + LONGEST_IMMEDIATE ≤ vec_capacity out.old → IsOk result }
     ensures capacity { vec_capacity out.old ≤ vec_capacity out.new }
 {
     let before = out.len();
@@ -156,16 +170,18 @@ fn route_in_nfs<'a>(
     out: &mut Vec<u8>,
 ) -> Result<Routed<'a>, RouteFault>
     requires { length who.now.gids.now % 4 ≡ 0 }
-    ensures routes { Routes (in_nfs (view head.now) (caller_of who.now) args.now) head.now.xid out.old.items out.new.items result }
+    ensures routes { Routes (in_nfs (view head.now) (caller_of who.now) args.now)
+        head.now.xid out.old.items out.new.items result }
+    ensures room { vec_len out.old + LONGEST_IMMEDIATE ≤ vec_capacity out.old → IsOk result }
     ensures capacity { vec_capacity out.old ≤ vec_capacity out.new }
 {
     if head.vers != VERSION {
         return accept(head.xid, PROG_MISMATCH, VERSIONS, out);
     }
-    if head.procedure > LAST_NFS {
+    let Some(procedure) = Procedure::of(head.procedure) else {
         return accept(head.xid, PROC_UNAVAIL, b"".as_slice(), out);
-    }
-    route_nfs(head.xid, head.procedure, who, args, out)
+    };
+    route_nfs(head.xid, procedure, who, args, out)
 }
 
 /// Routes a call of MOUNT by its version and its procedure.
@@ -176,13 +192,15 @@ fn route_in_mount<'a>(
     e: &Exports,
     out: &mut Vec<u8>,
 ) -> Result<Routed<'a>, RouteFault>
-    ensures routes { Routes (in_mount e.now.fsid (view head.now) args.now) head.now.xid out.old.items out.new.items result }
+    ensures routes { Routes (in_mount e.now.fsid (view head.now) args.now)
+        head.now.xid out.old.items out.new.items result }
+    ensures room { vec_len out.old + LONGEST_IMMEDIATE ≤ vec_capacity out.old → IsOk result }
     ensures capacity { vec_capacity out.old ≤ vec_capacity out.new }
 {
     if head.vers != VERSION {
         return accept(head.xid, PROG_MISMATCH, VERSIONS, out);
     }
-    if head.procedure > LAST_MOUNT {
+    if head.procedure > EXPORT {
         return accept(head.xid, PROC_UNAVAIL, b"".as_slice(), out);
     }
     route_mount(head.xid, head.procedure, args, e, out)
@@ -198,7 +216,9 @@ fn route_program<'a>(
     out: &mut Vec<u8>,
 ) -> Result<Routed<'a>, RouteFault>
     requires { length who.now.gids.now % 4 ≡ 0 }
-    ensures routes { Routes (in_program e.now.fsid (view head.now) (caller_of who.now) args.now) head.now.xid out.old.items out.new.items result }
+    ensures routes { Routes (in_program e.now.fsid (view head.now) (caller_of who.now) args.now)
+        head.now.xid out.old.items out.new.items result }
+    ensures room { vec_len out.old + LONGEST_IMMEDIATE ≤ vec_capacity out.old → IsOk result }
     ensures capacity { vec_capacity out.old ≤ vec_capacity out.new }
 {
     match head.prog {
@@ -226,7 +246,9 @@ fn route_head<'a>(
     e: &Exports,
     out: &mut Vec<u8>,
 ) -> Result<Routed<'a>, RouteFault>
-    ensures routes { Routes (behind_head e.now.fsid (view head.now) head.now.tail.now) head.now.xid out.old.items out.new.items result }
+    ensures routes { Routes (behind_head e.now.fsid (view head.now) head.now.tail.now)
+        head.now.xid out.old.items out.new.items result }
+    ensures room { vec_len out.old + LONGEST_IMMEDIATE ≤ vec_capacity out.old → IsOk result }
     ensures capacity { vec_capacity out.old ≤ vec_capacity out.new }
 {
     if head.rpcvers != RPC_VERSION {
@@ -240,10 +262,13 @@ fn route_head<'a>(
 
 /// Says what to do with a record, and adds the record of its reply where it needs no tree: NULL and
 /// MKNOD of NFS, all of MOUNT, denials, mismatches and garbage, by the first check that fits. The buffer is
-/// as it was in every other case. `NoMemory` comes only for such a record, with its transaction id.
+/// as it was in every other case. `NoMemory` comes only for such a record, with its transaction id, and not
+/// where the buffer has room for `LONGEST_IMMEDIATE` bytes more.
 #[tactic(auto, unfolding(crate::specs::Immediate::immediate_reply))]
 pub fn route<'a>(text: &'a [u8], e: &Exports, out: &mut Vec<u8>) -> Result<Routed<'a>, RouteFault>
     ensures routes { RoutesRecord (immediate_reply e.now.fsid text.now) text.now out.old.items out.new.items result }
+    ensures room { vec_len out.old + LONGEST_IMMEDIATE ≤ vec_capacity out.old
+        → (xid : ℕ) → result ≢ Err (RouteFault.NoMemory xid) }
     ensures capacity { vec_capacity out.old ≤ vec_capacity out.new }
 {
     let head = match read_call(text) {

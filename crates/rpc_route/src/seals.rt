@@ -16,15 +16,19 @@ const SUCCESS: u32 = 0;
 /// The server has no memory (accept_stat).
 const SYSTEM_ERR: u32 = 5;
 
-/// How many bytes stand before the results of an accepted reply.
-const HEAD: usize = 28;
+/// How many bytes of the record of an accepted reply stand before its results: the mark and the head. The
+/// record that says that memory ran out has no more.
+pub const ACCEPTED_HEAD: usize = 28;
+
+/// How many bytes the longest record of a failure has, where each optional item is absent.
+pub const LONGEST_BARE: usize = 48;
 
 /// Puts the record of a reply, whose result has `size` bytes, into room that was reserved.
 fn put_sealed(xid: u32, size: u32, r: &Reply, out: &mut Vec<u8>) -> Result<(), NoMemory>
     requires spelled { IsSpelled r.now }
     requires size { size ≡ (result_of r.now.procedure).size (outcome_of r.now) }
     ensures ok { OnOk result (out.new.items ≡ out.old.items ++ sealed xid r.now) }
-    ensures room { vec_len out.old + (28 + size) ≤ vec_capacity out.old → IsOk result }
+    ensures room { vec_len out.old + (ACCEPTED_HEAD + size) ≤ vec_capacity out.old → IsOk result }
     ensures capacity { vec_capacity out.old ≤ vec_capacity out.new }
 {
     write_accepted_head(xid, SUCCESS, size, out)?;
@@ -37,22 +41,24 @@ pub fn seal(xid: u32, r: &Reply, out: &mut Vec<u8>) -> Result<(), NoMemory>
     requires { IsSpelled r.now }
     ensures ok { OnOk result (out.new.items ≡ out.old.items ++ sealed xid r.now) }
     ensures err { OnErr result (out.new.items ≡ out.old.items) }
-    ensures room { vec_len out.old + (28 + (result_of r.now.procedure).size (outcome_of r.now)) ≤ vec_capacity out.old → IsOk result }
+    ensures room { vec_len out.old + (ACCEPTED_HEAD + (result_of r.now.procedure).size (outcome_of r.now)) ≤ vec_capacity out.old
+        → IsOk result }
     ensures capacity { vec_capacity out.old ≤ vec_capacity out.new }
 {
     let size = reply_size(r);
-    out.reserve(HEAD + size)?;
+    out.reserve(ACCEPTED_HEAD + size)?;
     put_sealed(xid, size as u32, r, out)
 }
 
-/// Adds the record of a failure's reply, where each optional item is absent, into room of 48 bytes that was
-/// reserved, so it takes no memory.
+/// Adds the record of a failure's reply, where each optional item is absent, into room of `LONGEST_BARE` bytes
+/// that was reserved, so it takes no memory.
 pub fn seal_bare(xid: u32, procedure: u32, status: Status, out: &mut Vec<u8>)
     requires first { 1 ≤ procedure }
     requires last { procedure ≤ 21 }
     requires failed { status ≢ Status.Ok }
-    requires room { vec_len out.old + 48 ≤ vec_capacity out.old }
-    ensures seal { out.new.items ≡ out.old.items ++ sealed xid (record { procedure = procedure; status = status; body = Body.Nothing }) }
+    requires room { vec_len out.old + LONGEST_BARE ≤ vec_capacity out.old }
+    ensures seal { out.new.items ≡ out.old.items
+        ++ sealed xid (record { procedure = procedure; status = status; body = Body.Nothing }) }
     ensures capacity { vec_capacity out.old ≤ vec_capacity out.new }
 {
     let reply = Reply {
@@ -65,10 +71,10 @@ pub fn seal_bare(xid: u32, procedure: u32, status: Status, out: &mut Vec<u8>)
     };
 }
 
-/// Adds the record that says that memory ran out for this call (SYSTEM_ERR) into room of 28 bytes that was
-/// reserved, so it takes no memory.
+/// Adds the record that says that memory ran out for this call (SYSTEM_ERR) into room of `ACCEPTED_HEAD` bytes
+/// that was reserved, so it takes no memory.
 pub fn seal_system(xid: u32, out: &mut Vec<u8>)
-    requires { vec_len out.old + 28 ≤ vec_capacity out.old }
+    requires { vec_len out.old + ACCEPTED_HEAD ≤ vec_capacity out.old }
     ensures seal { out.new.items ≡ out.old.items ++ accepted_record xid 5 [] }
     ensures capacity { vec_capacity out.old ≤ vec_capacity out.new }
 {

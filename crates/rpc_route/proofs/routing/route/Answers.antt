@@ -6,7 +6,9 @@ use Rattle.rpc_route.proofs.routing.route.Goals as goal
 
 pub returns-in-Err-clause-routes : goal.returns-in-Err-clause-routes
 returns-in-Err-clause-routes c = record {
-  is = refused_record c.args.e.now.fsid c.args.text.now c.read_call.result c.in-Err.fault c.in-Err.is c.read_call.ensures.short c.read_call.ensures.not_call;
+  is =
+      refused_record c.args.e.now.fsid c.args.text.now c.read_call.result c.in-Err.fault c.in-Err.is c.read_call.ensures.short
+      c.read_call.ensures.not_call;
   same = refl;
 }
 
@@ -15,5 +17,7 @@ returns-clause-routes c =
     let head = view c.in-Ok.head in
     let tail = c.in-Ok.head.tail.now in
     rw (whole_record c.args.e.now.fsid c.args.text.now tail head c.in-Ok.ensures.read refl)
-    (routes_record (behind_head c.args.e.now.fsid head tail) c.args.text.now c.args.out.now.items c.route_head.new.out.items head.xid c.route_head.result c.route_head.ensures.routes
+    (routes_record
+    (behind_head c.args.e.now.fsid head tail) c.args.text.now c.args.out.now.items c.route_head.new.out.items head.xid
+    c.route_head.result c.route_head.ensures.routes
     (record { head = head; rest = tail; read = c.in-Ok.ensures.read; is = refl }))
