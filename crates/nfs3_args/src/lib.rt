@@ -5,8 +5,8 @@
 //! It stands on `nfs3_items` for what calls share, and on `nfs3_types` for calls and their grammar.
 #![tactic(auto)]
 
-mod placing;
 mod putting;
+mod readers;
 mod reading;
 mod size;
 mod texts;
@@ -15,6 +15,3 @@ mod writing;
 pub use reading::read_args;
 pub use size::args_size;
 pub use writing::write_args;
-
-#[cfg(test)]
-mod tests;

@@ -1,6 +1,6 @@
 //! Writing the arguments of each procedure.
 
-ghost use Rattle.std.specs.Prelude.{◌≡◌, ◌+◌, ◌≤◌, ◌++◌, vec_len, vec_capacity, OnOk, IsOk};
+ghost use Rattle.xdr_grammar.specs.Writing.{Puts};
 ghost use Rattle.nfs3_types.specs.Calls.{dir_op, create_how, device_data, mknod_data, set_attr_args, access_args, file_range, write_args, create_args, mkdir_args, symlink_args, mknod_args, rename_args, link_args, read_dir_args, read_dir_plus_args};
 
 use crate::texts::{put_handle, put_text};
@@ -17,10 +17,7 @@ use xdr::{put_hyper, put_word};
 #[tactic(auto, unfolding(nfs3_types::specs::Calls::dir_op, xdr_grammar::specs::Items::word))]
 pub fn put_place(out: &mut Vec<u8>, place: &DirOp<TextRef<'_>>) -> Result<(), NoMemory>
     requires { dir_op.Fits place.now }
-    ensures ok { OnOk result (out.new.items ≡ out.old.items ++ dir_op.spelling place.now) }
-    ensures len { OnOk result (vec_len out.new ≡ vec_len out.old + dir_op.size place.now) }
-    ensures room { vec_len out.old + dir_op.size place.now ≤ vec_capacity out.old → IsOk result }
-    ensures capacity { vec_capacity out.old ≤ vec_capacity out.new }
+    ensures { Puts dir_op place.now out.old out.new result }
 {
     put_handle(out, &place.directory)?;
     put_text(out, &place.name)
@@ -28,10 +25,7 @@ pub fn put_place(out: &mut Vec<u8>, place: &DirOp<TextRef<'_>>) -> Result<(), No
 
 #[tactic(auto, unfolding(nfs3_types::specs::Calls::create_how, xdr_grammar::specs::Items::pick, xdr_grammar::specs::Items::word))]
 fn put_create_how(out: &mut Vec<u8>, how: &CreateHow) -> Result<(), NoMemory>
-    ensures ok { OnOk result (out.new.items ≡ out.old.items ++ create_how.spelling how.now) }
-    ensures len { OnOk result (vec_len out.new ≡ vec_len out.old + create_how.size how.now) }
-    ensures room { vec_len out.old + create_how.size how.now ≤ vec_capacity out.old → IsOk result }
-    ensures capacity { vec_capacity out.old ≤ vec_capacity out.new }
+    ensures { Puts create_how how.now out.old out.new result }
 {
     match how {
         CreateHow::Unchecked(attributes) => {
@@ -51,10 +45,7 @@ fn put_create_how(out: &mut Vec<u8>, how: &CreateHow) -> Result<(), NoMemory>
 
 #[tactic(auto, unfolding(nfs3_types::specs::Calls::device_data))]
 fn put_device(out: &mut Vec<u8>, device: &DeviceData) -> Result<(), NoMemory>
-    ensures ok { OnOk result (out.new.items ≡ out.old.items ++ device_data.spelling device.now) }
-    ensures len { OnOk result (vec_len out.new ≡ vec_len out.old + device_data.size device.now) }
-    ensures room { vec_len out.old + device_data.size device.now ≤ vec_capacity out.old → IsOk result }
-    ensures capacity { vec_capacity out.old ≤ vec_capacity out.new }
+    ensures { Puts device_data device.now out.old out.new result }
 {
     put_sattr(out, &device.attributes)?;
     put_spec_data(out, device.spec)
@@ -63,10 +54,7 @@ fn put_device(out: &mut Vec<u8>, device: &DeviceData) -> Result<(), NoMemory>
 #[tactic(auto, unfolding(nfs3_types::specs::Calls::mknod_data, nfs3_types::specs::Calls::of_type))]
 fn put_mknod_data(out: &mut Vec<u8>, what: &MknodData) -> Result<(), NoMemory>
     requires { mknod_data.Fits what.now }
-    ensures ok { OnOk result (out.new.items ≡ out.old.items ++ mknod_data.spelling what.now) }
-    ensures len { OnOk result (vec_len out.new ≡ vec_len out.old + mknod_data.size what.now) }
-    ensures room { vec_len out.old + mknod_data.size what.now ≤ vec_capacity out.old → IsOk result }
-    ensures capacity { vec_capacity out.old ≤ vec_capacity out.new }
+    ensures { Puts mknod_data what.now out.old out.new result }
 {
     match what {
         MknodData::Chr(device) => {
@@ -92,10 +80,7 @@ fn put_mknod_data(out: &mut Vec<u8>, what: &MknodData) -> Result<(), NoMemory>
 #[tactic(auto, unfolding(nfs3_types::specs::Calls::set_attr_args))]
 pub fn put_set_attr_args(out: &mut Vec<u8>, args: &SetAttrArgs<TextRef<'_>>) -> Result<(), NoMemory>
     requires { set_attr_args.Fits args.now }
-    ensures ok { OnOk result (out.new.items ≡ out.old.items ++ set_attr_args.spelling args.now) }
-    ensures len { OnOk result (vec_len out.new ≡ vec_len out.old + set_attr_args.size args.now) }
-    ensures room { vec_len out.old + set_attr_args.size args.now ≤ vec_capacity out.old → IsOk result }
-    ensures capacity { vec_capacity out.old ≤ vec_capacity out.new }
+    ensures { Puts set_attr_args args.now out.old out.new result }
 {
     put_handle(out, &args.object)?;
     put_sattr(out, &args.attributes)?;
@@ -105,10 +90,7 @@ pub fn put_set_attr_args(out: &mut Vec<u8>, args: &SetAttrArgs<TextRef<'_>>) -> 
 #[tactic(auto, unfolding(nfs3_types::specs::Calls::access_args, xdr_grammar::specs::Items::word))]
 pub fn put_access_args(out: &mut Vec<u8>, args: &AccessArgs<TextRef<'_>>) -> Result<(), NoMemory>
     requires { access_args.Fits args.now }
-    ensures ok { OnOk result (out.new.items ≡ out.old.items ++ access_args.spelling args.now) }
-    ensures len { OnOk result (vec_len out.new ≡ vec_len out.old + access_args.size args.now) }
-    ensures room { vec_len out.old + access_args.size args.now ≤ vec_capacity out.old → IsOk result }
-    ensures capacity { vec_capacity out.old ≤ vec_capacity out.new }
+    ensures { Puts access_args args.now out.old out.new result }
 {
     put_handle(out, &args.object)?;
     put_word(out, args.access)
@@ -117,10 +99,7 @@ pub fn put_access_args(out: &mut Vec<u8>, args: &AccessArgs<TextRef<'_>>) -> Res
 #[tactic(auto, unfolding(nfs3_types::specs::Calls::file_range, xdr_grammar::specs::Items::word, xdr_grammar::specs::Items::hyper))]
 pub fn put_file_range(out: &mut Vec<u8>, args: &FileRange<TextRef<'_>>) -> Result<(), NoMemory>
     requires { file_range.Fits args.now }
-    ensures ok { OnOk result (out.new.items ≡ out.old.items ++ file_range.spelling args.now) }
-    ensures len { OnOk result (vec_len out.new ≡ vec_len out.old + file_range.size args.now) }
-    ensures room { vec_len out.old + file_range.size args.now ≤ vec_capacity out.old → IsOk result }
-    ensures capacity { vec_capacity out.old ≤ vec_capacity out.new }
+    ensures { Puts file_range args.now out.old out.new result }
 {
     put_handle(out, &args.file)?;
     put_hyper(out, args.offset)?;
@@ -130,10 +109,7 @@ pub fn put_file_range(out: &mut Vec<u8>, args: &FileRange<TextRef<'_>>) -> Resul
 #[tactic(auto, unfolding(nfs3_types::specs::Calls::write_args, xdr_grammar::specs::Items::word, xdr_grammar::specs::Items::hyper))]
 pub fn put_write_args(out: &mut Vec<u8>, args: &WriteArgs<TextRef<'_>>) -> Result<(), NoMemory>
     requires { write_args.Fits args.now }
-    ensures ok { OnOk result (out.new.items ≡ out.old.items ++ write_args.spelling args.now) }
-    ensures len { OnOk result (vec_len out.new ≡ vec_len out.old + write_args.size args.now) }
-    ensures room { vec_len out.old + write_args.size args.now ≤ vec_capacity out.old → IsOk result }
-    ensures capacity { vec_capacity out.old ≤ vec_capacity out.new }
+    ensures { Puts write_args args.now out.old out.new result }
 {
     put_handle(out, &args.file)?;
     put_hyper(out, args.offset)?;
@@ -145,10 +121,7 @@ pub fn put_write_args(out: &mut Vec<u8>, args: &WriteArgs<TextRef<'_>>) -> Resul
 #[tactic(auto, unfolding(nfs3_types::specs::Calls::create_args))]
 pub fn put_create_args(out: &mut Vec<u8>, args: &CreateArgs<TextRef<'_>>) -> Result<(), NoMemory>
     requires { create_args.Fits args.now }
-    ensures ok { OnOk result (out.new.items ≡ out.old.items ++ create_args.spelling args.now) }
-    ensures len { OnOk result (vec_len out.new ≡ vec_len out.old + create_args.size args.now) }
-    ensures room { vec_len out.old + create_args.size args.now ≤ vec_capacity out.old → IsOk result }
-    ensures capacity { vec_capacity out.old ≤ vec_capacity out.new }
+    ensures { Puts create_args args.now out.old out.new result }
 {
     put_place(out, &args.place)?;
     put_create_how(out, &args.how)
@@ -157,10 +130,7 @@ pub fn put_create_args(out: &mut Vec<u8>, args: &CreateArgs<TextRef<'_>>) -> Res
 #[tactic(auto, unfolding(nfs3_types::specs::Calls::mkdir_args))]
 pub fn put_mkdir_args(out: &mut Vec<u8>, args: &MkdirArgs<TextRef<'_>>) -> Result<(), NoMemory>
     requires { mkdir_args.Fits args.now }
-    ensures ok { OnOk result (out.new.items ≡ out.old.items ++ mkdir_args.spelling args.now) }
-    ensures len { OnOk result (vec_len out.new ≡ vec_len out.old + mkdir_args.size args.now) }
-    ensures room { vec_len out.old + mkdir_args.size args.now ≤ vec_capacity out.old → IsOk result }
-    ensures capacity { vec_capacity out.old ≤ vec_capacity out.new }
+    ensures { Puts mkdir_args args.now out.old out.new result }
 {
     put_place(out, &args.place)?;
     put_sattr(out, &args.attributes)
@@ -169,10 +139,7 @@ pub fn put_mkdir_args(out: &mut Vec<u8>, args: &MkdirArgs<TextRef<'_>>) -> Resul
 #[tactic(auto, unfolding(nfs3_types::specs::Calls::symlink_args, xdr_grammar::specs::Items::word))]
 pub fn put_symlink_args(out: &mut Vec<u8>, args: &SymlinkArgs<TextRef<'_>>) -> Result<(), NoMemory>
     requires { symlink_args.Fits args.now }
-    ensures ok { OnOk result (out.new.items ≡ out.old.items ++ symlink_args.spelling args.now) }
-    ensures len { OnOk result (vec_len out.new ≡ vec_len out.old + symlink_args.size args.now) }
-    ensures room { vec_len out.old + symlink_args.size args.now ≤ vec_capacity out.old → IsOk result }
-    ensures capacity { vec_capacity out.old ≤ vec_capacity out.new }
+    ensures { Puts symlink_args args.now out.old out.new result }
 {
     put_place(out, &args.place)?;
     put_sattr(out, &args.attributes)?;
@@ -182,10 +149,7 @@ pub fn put_symlink_args(out: &mut Vec<u8>, args: &SymlinkArgs<TextRef<'_>>) -> R
 #[tactic(auto, unfolding(nfs3_types::specs::Calls::mknod_args))]
 pub fn put_mknod_args(out: &mut Vec<u8>, args: &MknodArgs<TextRef<'_>>) -> Result<(), NoMemory>
     requires { mknod_args.Fits args.now }
-    ensures ok { OnOk result (out.new.items ≡ out.old.items ++ mknod_args.spelling args.now) }
-    ensures len { OnOk result (vec_len out.new ≡ vec_len out.old + mknod_args.size args.now) }
-    ensures room { vec_len out.old + mknod_args.size args.now ≤ vec_capacity out.old → IsOk result }
-    ensures capacity { vec_capacity out.old ≤ vec_capacity out.new }
+    ensures { Puts mknod_args args.now out.old out.new result }
 {
     put_place(out, &args.place)?;
     put_mknod_data(out, &args.what)
@@ -194,10 +158,7 @@ pub fn put_mknod_args(out: &mut Vec<u8>, args: &MknodArgs<TextRef<'_>>) -> Resul
 #[tactic(auto, unfolding(nfs3_types::specs::Calls::rename_args))]
 pub fn put_rename_args(out: &mut Vec<u8>, args: &RenameArgs<TextRef<'_>>) -> Result<(), NoMemory>
     requires { rename_args.Fits args.now }
-    ensures ok { OnOk result (out.new.items ≡ out.old.items ++ rename_args.spelling args.now) }
-    ensures len { OnOk result (vec_len out.new ≡ vec_len out.old + rename_args.size args.now) }
-    ensures room { vec_len out.old + rename_args.size args.now ≤ vec_capacity out.old → IsOk result }
-    ensures capacity { vec_capacity out.old ≤ vec_capacity out.new }
+    ensures { Puts rename_args args.now out.old out.new result }
 {
     put_place(out, &args.from)?;
     put_place(out, &args.to)
@@ -206,10 +167,7 @@ pub fn put_rename_args(out: &mut Vec<u8>, args: &RenameArgs<TextRef<'_>>) -> Res
 #[tactic(auto, unfolding(nfs3_types::specs::Calls::link_args))]
 pub fn put_link_args(out: &mut Vec<u8>, args: &LinkArgs<TextRef<'_>>) -> Result<(), NoMemory>
     requires { link_args.Fits args.now }
-    ensures ok { OnOk result (out.new.items ≡ out.old.items ++ link_args.spelling args.now) }
-    ensures len { OnOk result (vec_len out.new ≡ vec_len out.old + link_args.size args.now) }
-    ensures room { vec_len out.old + link_args.size args.now ≤ vec_capacity out.old → IsOk result }
-    ensures capacity { vec_capacity out.old ≤ vec_capacity out.new }
+    ensures { Puts link_args args.now out.old out.new result }
 {
     put_handle(out, &args.file)?;
     put_place(out, &args.link)
@@ -218,10 +176,7 @@ pub fn put_link_args(out: &mut Vec<u8>, args: &LinkArgs<TextRef<'_>>) -> Result<
 #[tactic(auto, unfolding(nfs3_types::specs::Calls::read_dir_args, xdr_grammar::specs::Items::word, xdr_grammar::specs::Items::hyper))]
 pub fn put_read_dir_args(out: &mut Vec<u8>, args: &ReadDirArgs<TextRef<'_>>) -> Result<(), NoMemory>
     requires { read_dir_args.Fits args.now }
-    ensures ok { OnOk result (out.new.items ≡ out.old.items ++ read_dir_args.spelling args.now) }
-    ensures len { OnOk result (vec_len out.new ≡ vec_len out.old + read_dir_args.size args.now) }
-    ensures room { vec_len out.old + read_dir_args.size args.now ≤ vec_capacity out.old → IsOk result }
-    ensures capacity { vec_capacity out.old ≤ vec_capacity out.new }
+    ensures { Puts read_dir_args args.now out.old out.new result }
 {
     put_handle(out, &args.directory)?;
     put_hyper(out, args.cookie)?;
@@ -235,10 +190,7 @@ pub fn put_read_dir_plus_args(
     args: &ReadDirPlusArgs<TextRef<'_>>,
 ) -> Result<(), NoMemory>
     requires { read_dir_plus_args.Fits args.now }
-    ensures ok { OnOk result (out.new.items ≡ out.old.items ++ read_dir_plus_args.spelling args.now) }
-    ensures len { OnOk result (vec_len out.new ≡ vec_len out.old + read_dir_plus_args.size args.now) }
-    ensures room { vec_len out.old + read_dir_plus_args.size args.now ≤ vec_capacity out.old → IsOk result }
-    ensures capacity { vec_capacity out.old ≤ vec_capacity out.new }
+    ensures { Puts read_dir_plus_args args.now out.old out.new result }
 {
     put_handle(out, &args.directory)?;
     put_hyper(out, args.cookie)?;

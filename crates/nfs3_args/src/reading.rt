@@ -3,55 +3,56 @@
 ghost use Rattle.std.specs.Prelude.{◌≡◌, ◌≤◌, length, Ok, IfOk, IfErr};
 ghost use Rattle.xdr_grammar.specs.Reading.{Gives, GivesWhole};
 ghost use Rattle.xdr_grammar.specs.Whole.{whole, BreaksWhole};
-ghost use Rattle.nfs3_types.specs.Calls.{Call as PlainCall, procedure_of, call_of};
+ghost use Rattle.nfs3_types.specs.Calls.{Call as PlainCall, procedure_of, arguments, call_of};
 
-use crate::placing::{
+use crate::readers::{
     read_access_args, read_create_args, read_file_range, read_link_args, read_mkdir_args,
     read_mknod_args, read_place, read_read_dir_args, read_read_dir_plus_args, read_rename_args,
     read_set_attr_args, read_symlink_args, read_write_args,
 };
 use nfs3_items::read_handle;
-use nfs3_types::{Call, CallOver};
+use nfs3_types::{Call, CallOver, Procedure};
 use xdr::Reader;
 use xdr_grammar::XdrFault;
 
 /// Reads the call of a procedure.
-#[tactic(auto, unfolding(nfs3_types::specs::Calls::call_of))]
-fn read_call<'a>(procedure: u32, reader: &mut Reader<'a>) -> Result<Call<'a>, XdrFault>
-    ensures { Gives (call_of procedure) (λ lent. lent) reader.old reader.new result }
+#[tactic(auto, unfolding(nfs3_types::specs::Calls::arguments))]
+fn read_call<'a>(procedure: Procedure, reader: &mut Reader<'a>) -> Result<Call<'a>, XdrFault>
+    ensures { Gives (arguments procedure) (λ lent. lent) reader.old reader.new result }
 {
     match procedure {
-        1 => Ok(CallOver::GetAttr(read_handle(reader)?)),
-        2 => Ok(CallOver::SetAttr(read_set_attr_args(reader)?)),
-        3 => Ok(CallOver::Lookup(read_place(reader)?)),
-        4 => Ok(CallOver::Access(read_access_args(reader)?)),
-        5 => Ok(CallOver::ReadLink(read_handle(reader)?)),
-        6 => Ok(CallOver::Read(read_file_range(reader)?)),
-        7 => Ok(CallOver::Write(read_write_args(reader)?)),
-        8 => Ok(CallOver::Create(read_create_args(reader)?)),
-        9 => Ok(CallOver::Mkdir(read_mkdir_args(reader)?)),
-        10 => Ok(CallOver::Symlink(read_symlink_args(reader)?)),
-        11 => Ok(CallOver::Mknod(read_mknod_args(reader)?)),
-        12 => Ok(CallOver::Remove(read_place(reader)?)),
-        13 => Ok(CallOver::Rmdir(read_place(reader)?)),
-        14 => Ok(CallOver::Rename(read_rename_args(reader)?)),
-        15 => Ok(CallOver::Link(read_link_args(reader)?)),
-        16 => Ok(CallOver::ReadDir(read_read_dir_args(reader)?)),
-        17 => Ok(CallOver::ReadDirPlus(read_read_dir_plus_args(reader)?)),
-        18 => Ok(CallOver::FsStat(read_handle(reader)?)),
-        19 => Ok(CallOver::FsInfo(read_handle(reader)?)),
-        20 => Ok(CallOver::PathConf(read_handle(reader)?)),
-        21 => Ok(CallOver::Commit(read_file_range(reader)?)),
-        _ => Ok(CallOver::Null),
+        Procedure::GetAttr => Ok(CallOver::GetAttr(read_handle(reader)?)),
+        Procedure::SetAttr => Ok(CallOver::SetAttr(read_set_attr_args(reader)?)),
+        Procedure::Lookup => Ok(CallOver::Lookup(read_place(reader)?)),
+        Procedure::Access => Ok(CallOver::Access(read_access_args(reader)?)),
+        Procedure::ReadLink => Ok(CallOver::ReadLink(read_handle(reader)?)),
+        Procedure::Read => Ok(CallOver::Read(read_file_range(reader)?)),
+        Procedure::Write => Ok(CallOver::Write(read_write_args(reader)?)),
+        Procedure::Create => Ok(CallOver::Create(read_create_args(reader)?)),
+        Procedure::Mkdir => Ok(CallOver::Mkdir(read_mkdir_args(reader)?)),
+        Procedure::Symlink => Ok(CallOver::Symlink(read_symlink_args(reader)?)),
+        Procedure::Mknod => Ok(CallOver::Mknod(read_mknod_args(reader)?)),
+        Procedure::Remove => Ok(CallOver::Remove(read_place(reader)?)),
+        Procedure::Rmdir => Ok(CallOver::Rmdir(read_place(reader)?)),
+        Procedure::Rename => Ok(CallOver::Rename(read_rename_args(reader)?)),
+        Procedure::Link => Ok(CallOver::Link(read_link_args(reader)?)),
+        Procedure::ReadDir => Ok(CallOver::ReadDir(read_read_dir_args(reader)?)),
+        Procedure::ReadDirPlus => Ok(CallOver::ReadDirPlus(read_read_dir_plus_args(reader)?)),
+        Procedure::FsStat => Ok(CallOver::FsStat(read_handle(reader)?)),
+        Procedure::FsInfo => Ok(CallOver::FsInfo(read_handle(reader)?)),
+        Procedure::PathConf => Ok(CallOver::PathConf(read_handle(reader)?)),
+        Procedure::Commit => Ok(CallOver::Commit(read_file_range(reader)?)),
+        Procedure::Null => Ok(CallOver::Null),
     }
 }
 
 /// Reads the call that the whole text spells.
+#[tactic(auto, unfolding(nfs3_types::specs::Calls::call_of))]
 fn read_whole<'a>(procedure: u32, args: &'a [u8]) -> Result<Call<'a>, XdrFault>
     ensures { GivesWhole (λ lent. lent) (whole (call_of procedure) args.now) result }
 {
     let mut reader = Reader::new(args);
-    let lent = read_call(procedure, &mut reader)?;
+    let lent = read_call(Procedure::at(procedure), &mut reader)?;
     reader.end()?;
     Ok(lent)
 }

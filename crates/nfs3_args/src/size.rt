@@ -2,7 +2,7 @@
 
 ghost use Rattle.std.specs.Prelude.{◌≡◌, ◌^◌, ◌<◌, ◌≤◌};
 ghost use Rattle.nfs3_args.specs.Fitting.{CanBeSpelled};
-ghost use Rattle.nfs3_types.specs.Calls.{procedure_of, call_of, dir_op, create_how, mknod_data, set_attr_args, access_args, file_range, write_args, create_args, mkdir_args, symlink_args, mknod_args, rename_args, link_args, read_dir_args, read_dir_plus_args};
+ghost use Rattle.nfs3_types.specs.Calls.{called, procedure_of, arguments, call_of, dir_op, create_how, mknod_data, set_attr_args, access_args, file_range, write_args, create_args, mkdir_args, symlink_args, mknod_args, rename_args, link_args, read_dir_args, read_dir_plus_args};
 
 use crate::texts::{handle_size, text_size};
 use nfs3_items::{optional_time_size, sattr_size};
@@ -153,11 +153,11 @@ fn read_dir_plus_args_size(args: &ReadDirPlusArgs<TextRef<'_>>) -> usize
     24 + handle_size(&args.directory)
 }
 
-#[tactic(auto, unfolding(nfs3_types::specs::Calls::call_of))]
+#[tactic(auto, unfolding(nfs3_types::specs::Calls::arguments))]
 fn size_of(lent: &Call<'_>) -> usize
     requires spelled { CanBeSpelled lent.now }
-    requires short { (call_of (procedure_of lent.now)).size lent.now < 2 ^ 31 }
-    ensures { result ≡ (call_of (procedure_of lent.now)).size lent.now }
+    requires short { (arguments (called lent.now)).size lent.now < 2 ^ 31 }
+    ensures { result ≡ (arguments (called lent.now)).size lent.now }
 {
     match lent {
         CallOver::Null => 0,

@@ -1,6 +1,7 @@
 //! Handles, names and content of calls, which are lent.
 
-ghost use Rattle.std.specs.Prelude.{◌≡◌, ◌+◌, ◌^◌, ◌<◌, ◌≤◌, ◌++◌, vec_len, vec_capacity, OnOk, IsOk};
+ghost use Rattle.std.specs.Prelude.{◌≡◌, ◌+◌, ◌^◌, ◌<◌};
+ghost use Rattle.xdr_grammar.specs.Writing.{Puts};
 ghost use Rattle.nfs3_types.specs.Handles.{file_handle};
 ghost use Rattle.nfs3_types.specs.Calls.{text as text_grammar};
 
@@ -9,10 +10,7 @@ use nfs3_types::{NoMemory, TextRef};
 #[tactic(auto, unfolding(nfs3_types::specs::Handles::file_handle, xdr_grammar::specs::Items::opaque, xdr_grammar::specs::Items::word))]
 pub fn put_handle(out: &mut Vec<u8>, handle: &TextRef<'_>) -> Result<(), NoMemory>
     requires { file_handle.Fits handle.now }
-    ensures ok { OnOk result (out.new.items ≡ out.old.items ++ file_handle.spelling handle.now) }
-    ensures len { OnOk result (vec_len out.new ≡ vec_len out.old + file_handle.size handle.now) }
-    ensures room { vec_len out.old + file_handle.size handle.now ≤ vec_capacity out.old → IsOk result }
-    ensures capacity { vec_capacity out.old ≤ vec_capacity out.new }
+    ensures { Puts file_handle handle.now out.old out.new result }
 {
     nfs3_items::put_handle(out, handle.as_slice())
 }
@@ -20,10 +18,7 @@ pub fn put_handle(out: &mut Vec<u8>, handle: &TextRef<'_>) -> Result<(), NoMemor
 #[tactic(auto, unfolding(nfs3_types::specs::Calls::text, xdr_grammar::specs::Items::opaque, xdr_grammar::specs::Items::word))]
 pub fn put_text(out: &mut Vec<u8>, text: &TextRef<'_>) -> Result<(), NoMemory>
     requires { text_grammar.Fits text.now }
-    ensures ok { OnOk result (out.new.items ≡ out.old.items ++ text_grammar.spelling text.now) }
-    ensures len { OnOk result (vec_len out.new ≡ vec_len out.old + text_grammar.size text.now) }
-    ensures room { vec_len out.old + text_grammar.size text.now ≤ vec_capacity out.old → IsOk result }
-    ensures capacity { vec_capacity out.old ≤ vec_capacity out.new }
+    ensures { Puts text_grammar text.now out.old out.new result }
 {
     nfs3_items::put_text(out, text.as_slice())
 }

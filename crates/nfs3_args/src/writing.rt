@@ -1,7 +1,8 @@
 //! Writing arguments.
 
-ghost use Rattle.std.specs.Prelude.{◌≡◌, ◌-◌, ◌+◌, ◌^◌, ◌<◌, ◌≤◌, ◌++◌, vec_len, vec_capacity, OnOk, OnErr, IsOk};
-ghost use Rattle.nfs3_types.specs.Calls.{procedure_of, call_of};
+ghost use Rattle.std.specs.Prelude.{◌≡◌, ◌-◌, ◌^◌, ◌<◌, OnErr};
+ghost use Rattle.xdr_grammar.specs.Writing.{Puts};
+ghost use Rattle.nfs3_types.specs.Calls.{called, procedure_of, arguments, call_of};
 ghost use Rattle.nfs3_args.specs.Fitting.{CanBeSpelled};
 
 use crate::putting::{
@@ -13,13 +14,10 @@ use crate::size::args_size;
 use crate::texts::put_handle;
 use nfs3_types::{Call, CallOver, NoMemory};
 
-#[tactic(auto, unfolding(nfs3_types::specs::Calls::call_of))]
+#[tactic(auto, unfolding(nfs3_types::specs::Calls::arguments))]
 fn put_call(out: &mut Vec<u8>, lent: &Call<'_>) -> Result<(), NoMemory>
     requires { CanBeSpelled lent.now }
-    ensures ok { OnOk result (out.new.items ≡ out.old.items ++ (call_of (procedure_of lent.now)).spelling lent.now) }
-    ensures len { OnOk result (vec_len out.new ≡ vec_len out.old + (call_of (procedure_of lent.now)).size lent.now) }
-    ensures room { vec_len out.old + (call_of (procedure_of lent.now)).size lent.now ≤ vec_capacity out.old → IsOk result }
-    ensures capacity { vec_capacity out.old ≤ vec_capacity out.new }
+    ensures { Puts (arguments (called lent.now)) lent.now out.old out.new result }
 {
     match lent {
         CallOver::Null => Ok(()),
@@ -52,9 +50,8 @@ fn put_call(out: &mut Vec<u8>, lent: &Call<'_>) -> Result<(), NoMemory>
 pub fn write_args(lent: &Call<'_>, out: &mut Vec<u8>) -> Result<(), NoMemory>
     requires spelled { (call_of (procedure_of lent.now)).Fits lent.now }
     requires short { (call_of (procedure_of lent.now)).size lent.now < 2 ^ 31 - 24 }
-    ensures ok { OnOk result (out.new.items ≡ out.old.items ++ (call_of (procedure_of lent.now)).spelling lent.now) }
+    ensures puts { Puts (call_of (procedure_of lent.now)) lent.now out.old out.new result }
     ensures err { OnErr result (out.new.items ≡ out.old.items) }
-    ensures room { vec_len out.old + (call_of (procedure_of lent.now)).size lent.now ≤ vec_capacity out.old → IsOk result }
 {
     out.reserve(args_size(lent))?;
     put_call(out, lent)

@@ -27,6 +27,3 @@ pub use size::{
     handle_size, optional_time_size, post_op_attr_size, post_op_handle_size, sattr_size, text_size,
     wcc_size,
 };
-
-#[cfg(test)]
-mod tests;

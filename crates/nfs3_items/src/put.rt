@@ -1,6 +1,7 @@
 //! Writing texts, numbers that are named, times and devices.
 
-ghost use Rattle.std.specs.Prelude.{◌≡◌, ◌+◌, ◌^◌, ◌<◌, ◌≤◌, ◌++◌, length, vec_len, vec_capacity, OnOk, IsOk, IfSome};
+ghost use Rattle.std.specs.Prelude.{◌^◌, ◌<◌, length, IfSome};
+ghost use Rattle.xdr_grammar.specs.Writing.{Puts};
 ghost use Rattle.nfs3_types.specs.Statuses.{status as status_grammar};
 ghost use Rattle.nfs3_types.specs.FileTypes.{file_type};
 ghost use Rattle.nfs3_types.specs.Stability.{stable_how};
@@ -15,10 +16,7 @@ use xdr::{put_fixed, put_opaque, put_truth, put_word};
 #[tactic(auto, unfolding(nfs3_types::specs::Calls::text, xdr_grammar::specs::Items::opaque, xdr_grammar::specs::Items::fixed, xdr_grammar::specs::Items::word))]
 pub fn put_text(out: &mut Vec<u8>, text: &[u8]) -> Result<(), NoMemory>
     requires { length text.now < 2 ^ 32 }
-    ensures ok { OnOk result (out.new.items ≡ out.old.items ++ text_grammar.spelling text.now) }
-    ensures len { OnOk result (vec_len out.new ≡ vec_len out.old + text_grammar.size text.now) }
-    ensures room { vec_len out.old + text_grammar.size text.now ≤ vec_capacity out.old → IsOk result }
-    ensures capacity { vec_capacity out.old ≤ vec_capacity out.new }
+    ensures { Puts text_grammar text.now out.old out.new result }
 {
     put_opaque(out, text)
 }
@@ -27,10 +25,7 @@ pub fn put_text(out: &mut Vec<u8>, text: &[u8]) -> Result<(), NoMemory>
 #[tactic(auto, unfolding(nfs3_types::specs::Handles::file_handle, xdr_grammar::specs::Items::opaque, xdr_grammar::specs::Items::fixed, xdr_grammar::specs::Items::word))]
 pub fn put_handle(out: &mut Vec<u8>, handle: &[u8]) -> Result<(), NoMemory>
     requires { length handle.now < 2 ^ 32 }
-    ensures ok { OnOk result (out.new.items ≡ out.old.items ++ file_handle.spelling handle.now) }
-    ensures len { OnOk result (vec_len out.new ≡ vec_len out.old + file_handle.size handle.now) }
-    ensures room { vec_len out.old + file_handle.size handle.now ≤ vec_capacity out.old → IsOk result }
-    ensures capacity { vec_capacity out.old ≤ vec_capacity out.new }
+    ensures { Puts file_handle handle.now out.old out.new result }
 {
     put_opaque(out, handle)
 }
@@ -39,10 +34,7 @@ pub fn put_handle(out: &mut Vec<u8>, handle: &[u8]) -> Result<(), NoMemory>
 #[tactic(auto, unfolding(nfs3_types::specs::Handles::post_op_handle, xdr_grammar::specs::Items::truth, xdr_grammar::specs::Items::word))]
 pub fn put_post_op_handle(out: &mut Vec<u8>, handle: &Option<Text>) -> Result<(), NoMemory>
     requires { IfSome handle.now (λ handle. length handle < 2 ^ 32) }
-    ensures ok { OnOk result (out.new.items ≡ out.old.items ++ post_op_handle.spelling handle.now) }
-    ensures len { OnOk result (vec_len out.new ≡ vec_len out.old + post_op_handle.size handle.now) }
-    ensures room { vec_len out.old + post_op_handle.size handle.now ≤ vec_capacity out.old → IsOk result }
-    ensures capacity { vec_capacity out.old ≤ vec_capacity out.new }
+    ensures { Puts post_op_handle handle.now out.old out.new result }
 {
     match handle {
         Some(handle) => {
@@ -56,10 +48,7 @@ pub fn put_post_op_handle(out: &mut Vec<u8>, handle: &Option<Text>) -> Result<()
 /// Adds a verifier of eight bytes (cookieverf3, createverf3, writeverf3).
 #[tactic(auto, unfolding(nfs3_types::specs::Calls::verifier, xdr_grammar::specs::Items::fixed))]
 pub fn put_verifier(out: &mut Vec<u8>, verifier: [u8; 8]) -> Result<(), NoMemory>
-    ensures ok { OnOk result (out.new.items ≡ out.old.items ++ verifier_grammar.spelling verifier) }
-    ensures len { OnOk result (vec_len out.new ≡ vec_len out.old + verifier_grammar.size verifier) }
-    ensures room { vec_len out.old + verifier_grammar.size verifier ≤ vec_capacity out.old → IsOk result }
-    ensures capacity { vec_capacity out.old ≤ vec_capacity out.new }
+    ensures { Puts verifier_grammar verifier out.old out.new result }
 {
     put_fixed(out, &verifier)
 }
@@ -67,10 +56,7 @@ pub fn put_verifier(out: &mut Vec<u8>, verifier: [u8; 8]) -> Result<(), NoMemory
 /// Adds a status (nfsstat3).
 #[tactic(auto, unfolding(nfs3_types::specs::Statuses::status, xdr_grammar::specs::Enumerations::enumeration, xdr_grammar::specs::Items::word))]
 pub fn put_status(out: &mut Vec<u8>, status: Status) -> Result<(), NoMemory>
-    ensures ok { OnOk result (out.new.items ≡ out.old.items ++ status_grammar.spelling status) }
-    ensures len { OnOk result (vec_len out.new ≡ vec_len out.old + status_grammar.size status) }
-    ensures room { vec_len out.old + status_grammar.size status ≤ vec_capacity out.old → IsOk result }
-    ensures capacity { vec_capacity out.old ≤ vec_capacity out.new }
+    ensures { Puts status_grammar status out.old out.new result }
 {
     put_word(out, status.number())
 }
@@ -78,10 +64,7 @@ pub fn put_status(out: &mut Vec<u8>, status: Status) -> Result<(), NoMemory>
 /// Adds a file's type (ftype3).
 #[tactic(auto, unfolding(nfs3_types::specs::FileTypes::file_type, xdr_grammar::specs::Enumerations::enumeration, xdr_grammar::specs::Items::word))]
 pub fn put_file_type(out: &mut Vec<u8>, kind: FileType) -> Result<(), NoMemory>
-    ensures ok { OnOk result (out.new.items ≡ out.old.items ++ file_type.spelling kind) }
-    ensures len { OnOk result (vec_len out.new ≡ vec_len out.old + file_type.size kind) }
-    ensures room { vec_len out.old + file_type.size kind ≤ vec_capacity out.old → IsOk result }
-    ensures capacity { vec_capacity out.old ≤ vec_capacity out.new }
+    ensures { Puts file_type kind out.old out.new result }
 {
     put_word(out, kind.number())
 }
@@ -89,10 +72,7 @@ pub fn put_file_type(out: &mut Vec<u8>, kind: FileType) -> Result<(), NoMemory>
 /// Adds how lasting a write is (stable_how).
 #[tactic(auto, unfolding(nfs3_types::specs::Stability::stable_how, xdr_grammar::specs::Enumerations::enumeration, xdr_grammar::specs::Items::word))]
 pub fn put_stable_how(out: &mut Vec<u8>, stable: StableHow) -> Result<(), NoMemory>
-    ensures ok { OnOk result (out.new.items ≡ out.old.items ++ stable_how.spelling stable) }
-    ensures len { OnOk result (vec_len out.new ≡ vec_len out.old + stable_how.size stable) }
-    ensures room { vec_len out.old + stable_how.size stable ≤ vec_capacity out.old → IsOk result }
-    ensures capacity { vec_capacity out.old ≤ vec_capacity out.new }
+    ensures { Puts stable_how stable out.old out.new result }
 {
     put_word(out, stable.number())
 }
@@ -100,10 +80,7 @@ pub fn put_stable_how(out: &mut Vec<u8>, stable: StableHow) -> Result<(), NoMemo
 /// Adds a time (nfstime3).
 #[tactic(auto, unfolding(nfs3_types::specs::Attributes::time, xdr_grammar::specs::Items::word))]
 pub fn put_time(out: &mut Vec<u8>, moment: Moment) -> Result<(), NoMemory>
-    ensures ok { OnOk result (out.new.items ≡ out.old.items ++ time.spelling moment) }
-    ensures len { OnOk result (vec_len out.new ≡ vec_len out.old + time.size moment) }
-    ensures room { vec_len out.old + time.size moment ≤ vec_capacity out.old → IsOk result }
-    ensures capacity { vec_capacity out.old ≤ vec_capacity out.new }
+    ensures { Puts time moment out.old out.new result }
 {
     put_word(out, moment.seconds)?;
     put_word(out, moment.nanos)
@@ -112,10 +89,7 @@ pub fn put_time(out: &mut Vec<u8>, moment: Moment) -> Result<(), NoMemory>
 /// Adds which device it is (specdata3).
 #[tactic(auto, unfolding(nfs3_types::specs::Attributes::spec_data, xdr_grammar::specs::Items::word))]
 pub fn put_spec_data(out: &mut Vec<u8>, spec: SpecData) -> Result<(), NoMemory>
-    ensures ok { OnOk result (out.new.items ≡ out.old.items ++ spec_data.spelling spec) }
-    ensures len { OnOk result (vec_len out.new ≡ vec_len out.old + spec_data.size spec) }
-    ensures room { vec_len out.old + spec_data.size spec ≤ vec_capacity out.old → IsOk result }
-    ensures capacity { vec_capacity out.old ≤ vec_capacity out.new }
+    ensures { Puts spec_data spec out.old out.new result }
 {
     put_word(out, spec.major)?;
     put_word(out, spec.minor)

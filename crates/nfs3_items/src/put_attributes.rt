@@ -1,6 +1,6 @@
 //! Writing attributes.
 
-ghost use Rattle.std.specs.Prelude.{◌≡◌, ◌+◌, ◌≤◌, ◌++◌, vec_len, vec_capacity, OnOk, IsOk};
+ghost use Rattle.xdr_grammar.specs.Writing.{Puts};
 ghost use Rattle.nfs3_types.specs.Attributes.{fattr, post_op_attr, optional_word, optional_hyper, optional_time, set_time, sattr, wcc_attr, pre_op_attr, wcc_data};
 
 use crate::put::{put_file_type, put_spec_data, put_time};
@@ -10,10 +10,7 @@ use xdr::{put_hyper, put_truth, put_word};
 /// Adds a file's attributes (fattr3).
 #[tactic(auto, unfolding(nfs3_types::specs::Attributes::fattr, xdr_grammar::specs::Items::word, xdr_grammar::specs::Items::hyper))]
 pub fn put_fattr(out: &mut Vec<u8>, attributes: &Fattr) -> Result<(), NoMemory>
-    ensures ok { OnOk result (out.new.items ≡ out.old.items ++ fattr.spelling attributes.now) }
-    ensures len { OnOk result (vec_len out.new ≡ vec_len out.old + fattr.size attributes.now) }
-    ensures room { vec_len out.old + fattr.size attributes.now ≤ vec_capacity out.old → IsOk result }
-    ensures capacity { vec_capacity out.old ≤ vec_capacity out.new }
+    ensures { Puts fattr attributes.now out.old out.new result }
 {
     put_file_type(out, attributes.kind)?;
     put_word(out, attributes.mode)?;
@@ -33,10 +30,7 @@ pub fn put_fattr(out: &mut Vec<u8>, attributes: &Fattr) -> Result<(), NoMemory>
 /// Adds attributes that may be absent (post_op_attr).
 #[tactic(auto, unfolding(nfs3_types::specs::Attributes::post_op_attr, xdr_grammar::specs::Items::truth, xdr_grammar::specs::Items::word))]
 pub fn put_post_op_attr(out: &mut Vec<u8>, attributes: &Option<Fattr>) -> Result<(), NoMemory>
-    ensures ok { OnOk result (out.new.items ≡ out.old.items ++ post_op_attr.spelling attributes.now) }
-    ensures len { OnOk result (vec_len out.new ≡ vec_len out.old + post_op_attr.size attributes.now) }
-    ensures room { vec_len out.old + post_op_attr.size attributes.now ≤ vec_capacity out.old → IsOk result }
-    ensures capacity { vec_capacity out.old ≤ vec_capacity out.new }
+    ensures { Puts post_op_attr attributes.now out.old out.new result }
 {
     match attributes {
         Some(attributes) => {
@@ -49,10 +43,7 @@ pub fn put_post_op_attr(out: &mut Vec<u8>, attributes: &Option<Fattr>) -> Result
 
 #[tactic(auto, unfolding(nfs3_types::specs::Attributes::optional_word, xdr_grammar::specs::Items::truth, xdr_grammar::specs::Items::word))]
 fn put_optional_word(out: &mut Vec<u8>, value: Option<u32>) -> Result<(), NoMemory>
-    ensures ok { OnOk result (out.new.items ≡ out.old.items ++ optional_word.spelling value) }
-    ensures len { OnOk result (vec_len out.new ≡ vec_len out.old + optional_word.size value) }
-    ensures room { vec_len out.old + optional_word.size value ≤ vec_capacity out.old → IsOk result }
-    ensures capacity { vec_capacity out.old ≤ vec_capacity out.new }
+    ensures { Puts optional_word value out.old out.new result }
 {
     match value {
         Some(value) => {
@@ -65,10 +56,7 @@ fn put_optional_word(out: &mut Vec<u8>, value: Option<u32>) -> Result<(), NoMemo
 
 #[tactic(auto, unfolding(nfs3_types::specs::Attributes::optional_hyper, xdr_grammar::specs::Items::truth, xdr_grammar::specs::Items::hyper, xdr_grammar::specs::Items::word))]
 fn put_optional_hyper(out: &mut Vec<u8>, value: Option<u64>) -> Result<(), NoMemory>
-    ensures ok { OnOk result (out.new.items ≡ out.old.items ++ optional_hyper.spelling value) }
-    ensures len { OnOk result (vec_len out.new ≡ vec_len out.old + optional_hyper.size value) }
-    ensures room { vec_len out.old + optional_hyper.size value ≤ vec_capacity out.old → IsOk result }
-    ensures capacity { vec_capacity out.old ≤ vec_capacity out.new }
+    ensures { Puts optional_hyper value out.old out.new result }
 {
     match value {
         Some(value) => {
@@ -82,10 +70,7 @@ fn put_optional_hyper(out: &mut Vec<u8>, value: Option<u64>) -> Result<(), NoMem
 /// Adds a time that may be absent (sattrguard3).
 #[tactic(auto, unfolding(nfs3_types::specs::Attributes::optional_time, xdr_grammar::specs::Items::truth, xdr_grammar::specs::Items::word))]
 pub fn put_optional_time(out: &mut Vec<u8>, value: Option<Moment>) -> Result<(), NoMemory>
-    ensures ok { OnOk result (out.new.items ≡ out.old.items ++ optional_time.spelling value) }
-    ensures len { OnOk result (vec_len out.new ≡ vec_len out.old + optional_time.size value) }
-    ensures room { vec_len out.old + optional_time.size value ≤ vec_capacity out.old → IsOk result }
-    ensures capacity { vec_capacity out.old ≤ vec_capacity out.new }
+    ensures { Puts optional_time value out.old out.new result }
 {
     match value {
         Some(value) => {
@@ -98,10 +83,7 @@ pub fn put_optional_time(out: &mut Vec<u8>, value: Option<Moment>) -> Result<(),
 
 #[tactic(auto, unfolding(nfs3_types::specs::Attributes::set_time, xdr_grammar::specs::Items::pick, xdr_grammar::specs::Items::word))]
 fn put_set_time(out: &mut Vec<u8>, time: SetTime) -> Result<(), NoMemory>
-    ensures ok { OnOk result (out.new.items ≡ out.old.items ++ set_time.spelling time) }
-    ensures len { OnOk result (vec_len out.new ≡ vec_len out.old + set_time.size time) }
-    ensures room { vec_len out.old + set_time.size time ≤ vec_capacity out.old → IsOk result }
-    ensures capacity { vec_capacity out.old ≤ vec_capacity out.new }
+    ensures { Puts set_time time out.old out.new result }
 {
     match time {
         SetTime::DontChange => put_word(out, 0),
@@ -116,10 +98,7 @@ fn put_set_time(out: &mut Vec<u8>, time: SetTime) -> Result<(), NoMemory>
 /// Adds attributes that are to be set (sattr3).
 #[tactic(auto, unfolding(nfs3_types::specs::Attributes::sattr))]
 pub fn put_sattr(out: &mut Vec<u8>, attributes: &Sattr) -> Result<(), NoMemory>
-    ensures ok { OnOk result (out.new.items ≡ out.old.items ++ sattr.spelling attributes.now) }
-    ensures len { OnOk result (vec_len out.new ≡ vec_len out.old + sattr.size attributes.now) }
-    ensures room { vec_len out.old + sattr.size attributes.now ≤ vec_capacity out.old → IsOk result }
-    ensures capacity { vec_capacity out.old ≤ vec_capacity out.new }
+    ensures { Puts sattr attributes.now out.old out.new result }
 {
     put_optional_word(out, attributes.mode)?;
     put_optional_word(out, attributes.uid)?;
@@ -131,10 +110,7 @@ pub fn put_sattr(out: &mut Vec<u8>, attributes: &Sattr) -> Result<(), NoMemory>
 
 #[tactic(auto, unfolding(nfs3_types::specs::Attributes::wcc_attr, xdr_grammar::specs::Items::hyper))]
 fn put_wcc_attr(out: &mut Vec<u8>, attributes: &WccAttr) -> Result<(), NoMemory>
-    ensures ok { OnOk result (out.new.items ≡ out.old.items ++ wcc_attr.spelling attributes.now) }
-    ensures len { OnOk result (vec_len out.new ≡ vec_len out.old + wcc_attr.size attributes.now) }
-    ensures room { vec_len out.old + wcc_attr.size attributes.now ≤ vec_capacity out.old → IsOk result }
-    ensures capacity { vec_capacity out.old ≤ vec_capacity out.new }
+    ensures { Puts wcc_attr attributes.now out.old out.new result }
 {
     put_hyper(out, attributes.size)?;
     put_time(out, attributes.mtime)?;
@@ -143,10 +119,7 @@ fn put_wcc_attr(out: &mut Vec<u8>, attributes: &WccAttr) -> Result<(), NoMemory>
 
 #[tactic(auto, unfolding(nfs3_types::specs::Attributes::pre_op_attr, xdr_grammar::specs::Items::truth, xdr_grammar::specs::Items::word))]
 fn put_pre_op_attr(out: &mut Vec<u8>, attributes: &Option<WccAttr>) -> Result<(), NoMemory>
-    ensures ok { OnOk result (out.new.items ≡ out.old.items ++ pre_op_attr.spelling attributes.now) }
-    ensures len { OnOk result (vec_len out.new ≡ vec_len out.old + pre_op_attr.size attributes.now) }
-    ensures room { vec_len out.old + pre_op_attr.size attributes.now ≤ vec_capacity out.old → IsOk result }
-    ensures capacity { vec_capacity out.old ≤ vec_capacity out.new }
+    ensures { Puts pre_op_attr attributes.now out.old out.new result }
 {
     match attributes {
         Some(attributes) => {
@@ -160,10 +133,7 @@ fn put_pre_op_attr(out: &mut Vec<u8>, attributes: &Option<WccAttr>) -> Result<()
 /// Adds the attributes before and after a call (wcc_data).
 #[tactic(auto, unfolding(nfs3_types::specs::Attributes::wcc_data))]
 pub fn put_wcc(out: &mut Vec<u8>, wcc: &Wcc) -> Result<(), NoMemory>
-    ensures ok { OnOk result (out.new.items ≡ out.old.items ++ wcc_data.spelling wcc.now) }
-    ensures len { OnOk result (vec_len out.new ≡ vec_len out.old + wcc_data.size wcc.now) }
-    ensures room { vec_len out.old + wcc_data.size wcc.now ≤ vec_capacity out.old → IsOk result }
-    ensures capacity { vec_capacity out.old ≤ vec_capacity out.new }
+    ensures { Puts wcc_data wcc.now out.old out.new result }
 {
     put_pre_op_attr(out, &wcc.before)?;
     put_post_op_attr(out, &wcc.after)

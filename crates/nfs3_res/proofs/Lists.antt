@@ -1,11 +1,13 @@
 -- The steps of the loops over entries.
 use Rattle.std.proofs.Common.{◌≡◌, ℕ, ◌+◌, ◌≤◌, true, false, List, [], ◌∷◌, ◌++◌, length, take, Result, Ok, Err, sym, ap, ◌∙◌, length-append, arith}
+use Rattle.std.specs.Prelude.{Vec, vec_len, vec_capacity}
 use Rattle.std.specs.List.{flat_map, sum_by}
 use Rattle.xdr_grammar.specs.declared.fault.XdrFault.{XdrFault}
 use Rattle.xdr_grammar.specs.Grammar.{Grammar}
 use Rattle.xdr_grammar.specs.Items.{truth}
 use Rattle.xdr_grammar.specs.Entries.{entries}
 use Rattle.xdr_grammar.specs.Laws.{Laws}
+use Rattle.xdr_grammar.specs.Writing.{Begins}
 use Rattle.xdr_grammar.proofs.Loops.{with_front, entries_more, entries_end, entries_mark_fault, entries_entry_fault}
 use Rattle.nfs3_res.specs.declared.fault.ResFault.{ResFault}
 use Rattle.nfs3_res.specs.declared.fault.ResFault.TheVariants as faults
@@ -35,8 +37,9 @@ entry_shorter g laws after others x e = let f = laws.found after x others e in o
 
 -- ---- writing
 
--- what the first entries added
-pub record Added {A : Type 0} (f : A → List ℕ) (size : A → ℕ) (xs : List A) (i : ℕ) (before now : List ℕ) (before_len now_len before_room now_room : ℕ) : Type 0 where
-  pub text : now ≡ before ++ flat_map f (take i xs)
-  pub long : now_len ≡ before_len + sum_by size (take i xs)
-  pub room : before_room ≤ now_room
+-- the first items were put
+pub record Added {A Z : Type 0} (g : Grammar A) (xs : List A) (i : ℕ) (before now : Vec ℕ Z) : Type 0 where
+  pub text : now.items ≡ before.items ++ flat_map g.spelling (take i xs)
+  pub long : vec_len now ≡ vec_len before + sum_by g.size (take i xs)
+  pub front : (front : List ℕ) → Begins front before.items → Begins front now.items
+  pub room : vec_capacity before ≤ vec_capacity now

@@ -1,22 +1,23 @@
 -- What a failure that tells nothing is spelled as.
 use Rattle.std.proofs.Common.{◌≡◌, ℕ, ◌≤◌, Bool, true, false, None, refl, arith}
-use Rattle.std.specs.Prelude.{◌==◌, if◌then◌else◌}
-use Rattle.xdr_grammar.specs.Grammar.{Grammar, done}
 use Rattle.xdr_grammar.specs.Items.{truth, word}
-use Rattle.xdr_grammar.specs.Choices.{either, in_case}
 use Rattle.xdr_grammar.specs.Enumerations.{enumeration}
 use Rattle.xdr_grammar.proofs.Fits.{none_fits}
 use Rattle.nfs3_types.specs.declared.body.Body.TheVariants.{Nothing}
+use Rattle.nfs3_types.specs.declared.procedure.Procedure.{Procedure}
+use Rattle.nfs3_types.specs.declared.procedure.Procedure.TheVariants as procedures
 use Rattle.nfs3_types.specs.declared.reply.Reply.{Reply}
 use Rattle.nfs3_types.specs.declared.status.Status.{Status}
 use Rattle.nfs3_types.specs.declared.status.Status.TheVariants.{Ok as StatusOk}
 use Rattle.nfs3_types.specs.Statuses.{status}
+use Rattle.nfs3_types.specs.Procedures.{procedure_number, procedure_at, has_status}
 use Rattle.nfs3_types.specs.Attributes.{post_op_attr, wcc_data, wcc_attr, fattr, pre_op_attr}
 use Rattle.nfs3_types.specs.Replies.Outcome.{Failure}
-use Rattle.nfs3_types.specs.Replies.Refusal.{Silent, Object, Change, RenameChange, LinkChange}
-use Rattle.nfs3_types.specs.Replies.{Refusal, object_in, change_in, rename_change_in, link_change_in, rename_ok, link_ok, refusal, nothing_told, is_silent, tells_change, is_ok, result_with_status, result_of, outcome_of}
+use Rattle.nfs3_types.specs.Replies.Telling.{Nought, Attributes, BeforeAndAfter, OfRename, OfLink}
+use Rattle.nfs3_types.specs.Replies.{rename_ok, link_ok, absent, Telling, telling, told, nothing_in, nothing_told, is_ok, result_with_status, result_of, outcome_of}
+use Rattle.nfs3_types.proofs.ProcedureLaws.{number-procedure_at}
 use Rattle.nfs3_res.specs.Spelled.{IsSpelled}
-use Rattle.nfs3_res.proofs.Bodies.{ok_status, status_long, has_status, failure_size}
+use Rattle.nfs3_res.proofs.Bodies.{ok_status, status_long, with_status, failure_size, silence}
 
 -- ---- where each optional item is absent
 
@@ -40,45 +41,21 @@ link_fits : link_ok.Fits (record { attributes = None; directory = record { befor
 unfolding link_ok
 link_fits = record { first = absent_post_fits; second = record { first = absent_fits; second = refl } }
 
--- the refusal of a procedure, by what it tells
-abbrev told : (silent change rename link : Bool) → Grammar Refusal
-told silent change rename link =
-    either silent (done Silent)
-    (either change (in_case Change change_in wcc_data)
-    (either rename (in_case RenameChange rename_change_in rename_ok)
-    (either link (in_case LinkChange link_change_in link_ok)
-    (in_case Object object_in post_op_attr))))
+pub nothing_fits : (t : Telling) → (told t).Fits (nothing_in t)
+unfolding told
+nothing_fits Nought = refl
+nothing_fits Attributes = record { value = None; made = refl; fits = absent_post_fits }
+nothing_fits BeforeAndAfter = record { value = absent; made = refl; fits = absent_fits }
+nothing_fits OfRename = record { value = record { from = absent; to = absent }; made = refl; fits = rename_fits }
+nothing_fits OfLink = record { value = record { attributes = None; directory = absent }; made = refl; fits = link_fits }
 
-abbrev nothing : (silent change rename link : Bool) → Refusal
-nothing silent change rename link =
-    if silent then Silent
-    else (if change then Change (record { before = None; after = None })
-    else (if rename then RenameChange (record { from = record { before = None; after = None }; to = record { before = None; after = None } })
-    else (if link then LinkChange (record { attributes = None; directory = record { before = None; after = None } })
-    else Object None)))
-
-nothing_fits : (silent change rename link : Bool) → (told silent change rename link).Fits (nothing silent change rename link)
-nothing_fits true change rename link = refl
-nothing_fits false true rename link = record { value = record { before = None; after = None }; made = refl; fits = absent_fits }
-nothing_fits false false true link = record { value = record { from = record { before = None; after = None }; to = record { before = None; after = None } }; made = refl; fits = rename_fits }
-nothing_fits false false false true = record { value = record { attributes = None; directory = record { before = None; after = None } }; made = refl; fits = link_fits }
-nothing_fits false false false false = record { value = None; made = refl; fits = absent_post_fits }
-
-nothing_short : (silent change rename link : Bool) → (told silent change rename link).size (nothing silent change rename link) ≤ 16
-unfolding rename_ok link_ok wcc_data pre_op_attr post_op_attr truth word
-nothing_short true change rename link = omega arith
-nothing_short false true rename link = omega arith
-nothing_short false false true link = omega arith
-nothing_short false false false true = omega arith
-nothing_short false false false false = omega arith
-
-pub refusal_fits : (p : ℕ) → (refusal p).Fits (nothing_told p)
-unfolding refusal
-refusal_fits p = nothing_fits (is_silent p) (tells_change p) (p == 14) (p == 15)
-
-pub refusal_short : (p : ℕ) → (refusal p).size (nothing_told p) ≤ 16
-unfolding refusal
-refusal_short p = nothing_short (is_silent p) (tells_change p) (p == 14) (p == 15)
+pub nothing_short : (t : Telling) → (told t).size (nothing_in t) ≤ 16
+unfolding told rename_ok link_ok wcc_data pre_op_attr post_op_attr truth word
+nothing_short Nought = omega arith
+nothing_short Attributes = omega arith
+nothing_short BeforeAndAfter = omega arith
+nothing_short OfRename = omega arith
+nothing_short OfLink = omega arith
 
 -- ---- a reply that failed, and tells nothing
 
@@ -94,27 +71,39 @@ is_failed : (s : Status) → (s ≡ StatusOk → ⊥) → (ok : Bool) → is_ok 
 is_failed s other true e = absurd (other (ok_status s e))
 is_failed s other false e = refl
 
-with_status_fits : (p : ℕ) (s : Status) → is_ok s ≡ false → (result_with_status p).Fits (Failure s (nothing_told p))
+-- the result of a failure of this status that says nothing, where the procedure has a status
+pub record FailsSo (n : ℕ) (s : Status) : Type 0 where
+  pub fits : (result_of n).Fits (Failure s (nothing_told n))
+  pub short : (result_of n).size (Failure s (nothing_told n)) ≤ 20
+
+with_status_fits : (p : Procedure) (s : Status) → is_ok s ≡ false → (result_with_status p).Fits (Failure s (silence p))
 unfolding result_with_status
-with_status_fits p s failed = record { first = status_fits s; second = rw failed (record { value = nothing_told p; made = refl; fits = refusal_fits p }) }
+with_status_fits p s failed = record { first = status_fits s; second = rw failed (record { value = silence p; made = refl; fits = nothing_fits (telling p) }) }
 
-bare_fits : (p : ℕ) (s : Status) → (p ≡ 0 → ⊥) → is_ok s ≡ false → (result_of p).Fits (Failure s (nothing_told p))
-bare_fits p s named failed = rw (has_status p named) (with_status_fits p s failed)
+pub fails_so : (n : ℕ) (s : Status) → has_status (procedure_at n) ≡ true → is_ok s ≡ false → FailsSo n s
+fails_so n s has failed = record {
+  fits = rw (with_status n has) (with_status_fits (procedure_at n) s failed);
+  short = rw (with_status n has) (omega (arith, failure_size (procedure_at n) s (silence (procedure_at n)) failed, status_long s, nothing_short (telling (procedure_at n))));
+}
 
-failure_short : (p : ℕ) (s : Status) → (p ≡ 0 → ⊥) → is_ok s ≡ false → (result_of p).size (Failure s (nothing_told p)) ≤ 20
-failure_short p s named failed = rw (has_status p named) (omega (arith, failure_size p s (nothing_told p) failed, status_long s, refusal_short p))
+-- each procedure but that of number 0 has a status
+named_has : (p : Procedure) → 1 ≤ procedure_number p → has_status p ≡ true
+named_has procedures.Null h = absurd (omega (arith, h))
+named_has _ h = refl
+
+pub number_has : (n : ℕ) → 1 ≤ n → n ≤ 21 → has_status (procedure_at n) ≡ true
+number_has n first last = named_has (procedure_at n) (omega (arith, first, number-procedure_at n last))
 
 -- it has a spelling, and a short one
-pub record IsBare (p : ℕ) (s : Status) : Type 0 where
-  pub spelled : IsSpelled (bare p s)
-  pub short : (result_of p).size (outcome_of (bare p s)) ≤ 20
+pub record IsBare (n : ℕ) (s : Status) : Type 0 where
+  pub spelled : IsSpelled (bare n s)
+  pub short : (result_of n).size (outcome_of (bare n s)) ≤ 20
 
-pub is_bare : (p : ℕ) (s : Status) → 1 ≤ p → p ≤ 21 → (s ≡ StatusOk → ⊥) → IsBare p s
-is_bare p s first last other =
-    let named : p ≡ 0 → ⊥ = λ e. omega (arith, e, first) in
+pub is_bare : (n : ℕ) (s : Status) → 1 ≤ n → n ≤ 21 → (s ≡ StatusOk → ⊥) → IsBare n s
+is_bare n s first last other =
     let failed : is_ok s ≡ false = is_failed s other (is_ok s) refl in
-    let short = failure_short p s named failed in
+    let so = fails_so n s (number_has n first last) failed in
     record {
-      spelled = record { procedure_is = last; fits = rw failed (bare_fits p s named failed); short = rw failed (omega (arith, short)) };
-      short = rw failed short;
+      spelled = record { procedure_is = last; nothing = λ _. refl; fits = rw failed so.fits; short = rw failed (omega (arith, so.short)) };
+      short = rw failed so.short;
     }

@@ -1,11 +1,13 @@
 //! Lists of entries.
 
-ghost use Rattle.std.specs.Prelude.{◌≡◌, ◌+◌, ◌^◌, ◌<◌, ◌≤◌, ◌++◌, All, vec_len, vec_capacity, OnOk, IsOk};
+ghost use Rattle.std.specs.Prelude.{◌≡◌, ◌+◌, ◌^◌, ◌<◌, All};
 ghost use Rattle.xdr_grammar.specs.Grammar.{Grammar};
-ghost use Rattle.std.specs.List.{flat_map, sum_by};
-ghost use Rattle.xdr_grammar.specs.Entries.{entries, entry_spelling};
+ghost use Rattle.std.specs.List.{sum_by};
+ghost use Rattle.xdr_grammar.specs.Entries.{entries};
 ghost use Rattle.xdr_grammar.specs.Laws.{Laws};
+ghost use Rattle.xdr_grammar.specs.Writing.{Puts};
 ghost use Rattle.nfs3_types.specs.Replies.{dir_entry, dir_entry_plus};
+ghost use Rattle.nfs3_res.specs.Listing.{marked, PutsAll};
 ghost use Rattle.nfs3_res.specs.Reading.{GivesOwn};
 
 use crate::fault::ResFault;
@@ -28,10 +30,7 @@ pub trait ListItem: Drop {
     /// Adds an item.
     fn put(&self, out: &mut Vec<u8>) -> Result<(), NoMemory>
         requires { grammar.Fits self.now }
-        ensures ok { OnOk result (out.new.items ≡ out.old.items ++ grammar.spelling self.now) }
-        ensures len { OnOk result (vec_len out.new ≡ vec_len out.old + grammar.size self.now) }
-        ensures room { vec_len out.old + grammar.size self.now ≤ vec_capacity out.old → IsOk result }
-        ensures capacity { vec_capacity out.old ≤ vec_capacity out.new };
+        ensures { Puts grammar self.now out.old out.new result };
 
     /// The size of an item.
     fn size(&self) -> usize
@@ -54,10 +53,7 @@ fn read_dir_entry(alloc: Global, reader: &mut Reader<'_>) -> Result<DirEntry, Re
 #[tactic(auto, unfolding(nfs3_types::specs::Replies::dir_entry, xdr_grammar::specs::Items::hyper))]
 fn put_dir_entry(out: &mut Vec<u8>, entry: &DirEntry) -> Result<(), NoMemory>
     requires { dir_entry.Fits entry.now }
-    ensures ok { OnOk result (out.new.items ≡ out.old.items ++ dir_entry.spelling entry.now) }
-    ensures len { OnOk result (vec_len out.new ≡ vec_len out.old + dir_entry.size entry.now) }
-    ensures room { vec_len out.old + dir_entry.size entry.now ≤ vec_capacity out.old → IsOk result }
-    ensures capacity { vec_capacity out.old ≤ vec_capacity out.new }
+    ensures { Puts dir_entry entry.now out.old out.new result }
 {
     put_hyper(out, entry.fileid)?;
     put_text(out, &entry.name)?;
@@ -105,10 +101,7 @@ fn read_dir_entry_plus(alloc: Global, reader: &mut Reader<'_>) -> Result<DirEntr
 #[tactic(auto, unfolding(nfs3_types::specs::Replies::dir_entry_plus, xdr_grammar::specs::Items::hyper))]
 fn put_dir_entry_plus(out: &mut Vec<u8>, entry: &DirEntryPlus) -> Result<(), NoMemory>
     requires { dir_entry_plus.Fits entry.now }
-    ensures ok { OnOk result (out.new.items ≡ out.old.items ++ dir_entry_plus.spelling entry.now) }
-    ensures len { OnOk result (vec_len out.new ≡ vec_len out.old + dir_entry_plus.size entry.now) }
-    ensures room { vec_len out.old + dir_entry_plus.size entry.now ≤ vec_capacity out.old → IsOk result }
-    ensures capacity { vec_capacity out.old ≤ vec_capacity out.new }
+    ensures { Puts dir_entry_plus entry.now out.old out.new result }
 {
     put_hyper(out, entry.fileid)?;
     put_text(out, &entry.name)?;
@@ -161,24 +154,20 @@ pub fn read_entries<T: ListItem>(
 }
 
 /// Adds an item behind a true boolean.
+#[tactic(auto, unfolding(xdr_grammar::specs::Items::truth, xdr_grammar::specs::Items::word))]
 fn put_marked<T: ListItem>(out: &mut Vec<u8>, item: &T) -> Result<(), NoMemory>
     requires { T.grammar.Fits item.now }
-    ensures ok { OnOk result (out.new.items ≡ out.old.items ++ entry_spelling T.grammar item.now) }
-    ensures len { OnOk result (vec_len out.new ≡ vec_len out.old + (4 + T.grammar.size item.now)) }
-    ensures room { vec_len out.old + (4 + T.grammar.size item.now) ≤ vec_capacity out.old → IsOk result }
-    ensures capacity { vec_capacity out.old ≤ vec_capacity out.new }
+    ensures { Puts (marked T.grammar) item.now out.old out.new result }
 {
     put_truth(out, true)?;
     item.put(out)
 }
 
 /// Adds the items, each behind a true boolean.
+#[tactic(auto, unfolding(xdr_grammar::specs::Arrays::items))]
 fn put_items<T: ListItem>(out: &mut Vec<u8>, items: &[T]) -> Result<(), NoMemory>
     requires { All T.grammar.Fits items.now }
-    ensures ok { OnOk result (out.new.items ≡ out.old.items ++ flat_map (entry_spelling T.grammar) items.now) }
-    ensures len { OnOk result (vec_len out.new ≡ vec_len out.old + sum_by (λ x. 4 + T.grammar.size x) items.now) }
-    ensures room { vec_len out.old + sum_by (λ x. 4 + T.grammar.size x) items.now ≤ vec_capacity out.old → IsOk result }
-    ensures capacity { vec_capacity out.old ≤ vec_capacity out.new }
+    ensures { PutsAll (marked T.grammar) items.now out.old out.new result }
 {
     for item in items {
         put_marked(out, item)?;
@@ -187,13 +176,10 @@ fn put_items<T: ListItem>(out: &mut Vec<u8>, items: &[T]) -> Result<(), NoMemory
 }
 
 /// Adds a list and its end.
-#[tactic(auto, unfolding(xdr_grammar::specs::Entries::entries, xdr_grammar::specs::Items::truth, xdr_grammar::specs::Items::word))]
+#[tactic(auto, unfolding(xdr_grammar::specs::Entries::entries, xdr_grammar::specs::Arrays::items, xdr_grammar::specs::Items::truth, xdr_grammar::specs::Items::word))]
 pub fn put_entries<T: ListItem>(out: &mut Vec<u8>, items: &[T]) -> Result<(), NoMemory>
     requires { (entries T.grammar).Fits items.now }
-    ensures ok { OnOk result (out.new.items ≡ out.old.items ++ (entries T.grammar).spelling items.now) }
-    ensures len { OnOk result (vec_len out.new ≡ vec_len out.old + (entries T.grammar).size items.now) }
-    ensures room { vec_len out.old + (entries T.grammar).size items.now ≤ vec_capacity out.old → IsOk result }
-    ensures capacity { vec_capacity out.old ≤ vec_capacity out.new }
+    ensures { Puts (entries T.grammar) items.now out.old out.new result }
 {
     put_items(out, items)?;
     put_truth(out, false)

@@ -19,6 +19,3 @@ pub use fault::ResFault;
 pub use result::read_reply;
 pub use size::reply_size;
 pub use writing::write_reply;
-
-#[cfg(test)]
-mod tests;

@@ -1,8 +1,7 @@
 //! Writing what results of status OK say.
 
-ghost use Rattle.std.specs.Prelude.{◌≡◌, ◌+◌, ◌≤◌, ◌++◌, vec_len, vec_capacity, OnOk, IsOk};
-ghost use Rattle.nfs3_types.specs.Replies.{lookup_ok, access_ok, read_link_ok, read_ok, write_ok, create_ok, rename_ok, link_ok, fs_stat_ok, fs_info_ok, path_conf_ok, commit_ok, read_dir_ok, read_dir_plus_ok, ok_body};
-ghost use Rattle.nfs3_res.specs.Spelled.{procedure_in};
+ghost use Rattle.xdr_grammar.specs.Writing.{Puts};
+ghost use Rattle.nfs3_types.specs.Replies.{lookup_ok, access_ok, read_link_ok, read_ok, write_ok, create_ok, rename_ok, link_ok, fs_stat_ok, fs_info_ok, path_conf_ok, commit_ok, read_dir_ok, read_dir_plus_ok, ok_body, said_by};
 
 use crate::items::put_entries;
 use crate::texts::{put_handle, put_post_op_handle, put_text};
@@ -16,10 +15,7 @@ use xdr::{put_hyper, put_truth, put_word};
 #[tactic(auto, unfolding(nfs3_types::specs::Replies::lookup_ok))]
 fn put_lookup(out: &mut Vec<u8>, ok: &LookupOk) -> Result<(), NoMemory>
     requires { lookup_ok.Fits ok.now }
-    ensures ok { OnOk result (out.new.items ≡ out.old.items ++ lookup_ok.spelling ok.now) }
-    ensures len { OnOk result (vec_len out.new ≡ vec_len out.old + lookup_ok.size ok.now) }
-    ensures room { vec_len out.old + lookup_ok.size ok.now ≤ vec_capacity out.old → IsOk result }
-    ensures capacity { vec_capacity out.old ≤ vec_capacity out.new }
+    ensures { Puts lookup_ok ok.now out.old out.new result }
 {
     put_handle(out, &ok.object)?;
     put_post_op_attr(out, &ok.attributes)?;
@@ -28,10 +24,7 @@ fn put_lookup(out: &mut Vec<u8>, ok: &LookupOk) -> Result<(), NoMemory>
 
 #[tactic(auto, unfolding(nfs3_types::specs::Replies::access_ok, xdr_grammar::specs::Items::word))]
 fn put_access(out: &mut Vec<u8>, ok: &AccessOk) -> Result<(), NoMemory>
-    ensures ok { OnOk result (out.new.items ≡ out.old.items ++ access_ok.spelling ok.now) }
-    ensures len { OnOk result (vec_len out.new ≡ vec_len out.old + access_ok.size ok.now) }
-    ensures room { vec_len out.old + access_ok.size ok.now ≤ vec_capacity out.old → IsOk result }
-    ensures capacity { vec_capacity out.old ≤ vec_capacity out.new }
+    ensures { Puts access_ok ok.now out.old out.new result }
 {
     put_post_op_attr(out, &ok.attributes)?;
     put_word(out, ok.access)
@@ -40,10 +33,7 @@ fn put_access(out: &mut Vec<u8>, ok: &AccessOk) -> Result<(), NoMemory>
 #[tactic(auto, unfolding(nfs3_types::specs::Replies::read_link_ok))]
 fn put_read_link(out: &mut Vec<u8>, ok: &ReadLinkOk) -> Result<(), NoMemory>
     requires { read_link_ok.Fits ok.now }
-    ensures ok { OnOk result (out.new.items ≡ out.old.items ++ read_link_ok.spelling ok.now) }
-    ensures len { OnOk result (vec_len out.new ≡ vec_len out.old + read_link_ok.size ok.now) }
-    ensures room { vec_len out.old + read_link_ok.size ok.now ≤ vec_capacity out.old → IsOk result }
-    ensures capacity { vec_capacity out.old ≤ vec_capacity out.new }
+    ensures { Puts read_link_ok ok.now out.old out.new result }
 {
     put_post_op_attr(out, &ok.attributes)?;
     put_text(out, &ok.target)
@@ -52,10 +42,7 @@ fn put_read_link(out: &mut Vec<u8>, ok: &ReadLinkOk) -> Result<(), NoMemory>
 #[tactic(auto, unfolding(nfs3_types::specs::Replies::read_ok, xdr_grammar::specs::Items::word, xdr_grammar::specs::Items::truth))]
 fn put_read(out: &mut Vec<u8>, ok: &ReadOk) -> Result<(), NoMemory>
     requires { read_ok.Fits ok.now }
-    ensures ok { OnOk result (out.new.items ≡ out.old.items ++ read_ok.spelling ok.now) }
-    ensures len { OnOk result (vec_len out.new ≡ vec_len out.old + read_ok.size ok.now) }
-    ensures room { vec_len out.old + read_ok.size ok.now ≤ vec_capacity out.old → IsOk result }
-    ensures capacity { vec_capacity out.old ≤ vec_capacity out.new }
+    ensures { Puts read_ok ok.now out.old out.new result }
 {
     put_post_op_attr(out, &ok.attributes)?;
     put_word(out, ok.count)?;
@@ -65,10 +52,7 @@ fn put_read(out: &mut Vec<u8>, ok: &ReadOk) -> Result<(), NoMemory>
 
 #[tactic(auto, unfolding(nfs3_types::specs::Replies::write_ok, xdr_grammar::specs::Items::word))]
 fn put_write(out: &mut Vec<u8>, ok: &WriteOk) -> Result<(), NoMemory>
-    ensures ok { OnOk result (out.new.items ≡ out.old.items ++ write_ok.spelling ok.now) }
-    ensures len { OnOk result (vec_len out.new ≡ vec_len out.old + write_ok.size ok.now) }
-    ensures room { vec_len out.old + write_ok.size ok.now ≤ vec_capacity out.old → IsOk result }
-    ensures capacity { vec_capacity out.old ≤ vec_capacity out.new }
+    ensures { Puts write_ok ok.now out.old out.new result }
 {
     put_wcc(out, &ok.file)?;
     put_word(out, ok.count)?;
@@ -79,10 +63,7 @@ fn put_write(out: &mut Vec<u8>, ok: &WriteOk) -> Result<(), NoMemory>
 #[tactic(auto, unfolding(nfs3_types::specs::Replies::create_ok))]
 fn put_create(out: &mut Vec<u8>, ok: &CreateOk) -> Result<(), NoMemory>
     requires { create_ok.Fits ok.now }
-    ensures ok { OnOk result (out.new.items ≡ out.old.items ++ create_ok.spelling ok.now) }
-    ensures len { OnOk result (vec_len out.new ≡ vec_len out.old + create_ok.size ok.now) }
-    ensures room { vec_len out.old + create_ok.size ok.now ≤ vec_capacity out.old → IsOk result }
-    ensures capacity { vec_capacity out.old ≤ vec_capacity out.new }
+    ensures { Puts create_ok ok.now out.old out.new result }
 {
     put_post_op_handle(out, &ok.object)?;
     put_post_op_attr(out, &ok.attributes)?;
@@ -91,10 +72,7 @@ fn put_create(out: &mut Vec<u8>, ok: &CreateOk) -> Result<(), NoMemory>
 
 #[tactic(auto, unfolding(nfs3_types::specs::Replies::rename_ok))]
 pub fn put_rename(out: &mut Vec<u8>, ok: &RenameOk) -> Result<(), NoMemory>
-    ensures ok { OnOk result (out.new.items ≡ out.old.items ++ rename_ok.spelling ok.now) }
-    ensures len { OnOk result (vec_len out.new ≡ vec_len out.old + rename_ok.size ok.now) }
-    ensures room { vec_len out.old + rename_ok.size ok.now ≤ vec_capacity out.old → IsOk result }
-    ensures capacity { vec_capacity out.old ≤ vec_capacity out.new }
+    ensures { Puts rename_ok ok.now out.old out.new result }
 {
     put_wcc(out, &ok.from)?;
     put_wcc(out, &ok.to)
@@ -102,10 +80,7 @@ pub fn put_rename(out: &mut Vec<u8>, ok: &RenameOk) -> Result<(), NoMemory>
 
 #[tactic(auto, unfolding(nfs3_types::specs::Replies::link_ok))]
 pub fn put_link(out: &mut Vec<u8>, ok: &LinkOk) -> Result<(), NoMemory>
-    ensures ok { OnOk result (out.new.items ≡ out.old.items ++ link_ok.spelling ok.now) }
-    ensures len { OnOk result (vec_len out.new ≡ vec_len out.old + link_ok.size ok.now) }
-    ensures room { vec_len out.old + link_ok.size ok.now ≤ vec_capacity out.old → IsOk result }
-    ensures capacity { vec_capacity out.old ≤ vec_capacity out.new }
+    ensures { Puts link_ok ok.now out.old out.new result }
 {
     put_post_op_attr(out, &ok.attributes)?;
     put_wcc(out, &ok.directory)
@@ -113,10 +88,7 @@ pub fn put_link(out: &mut Vec<u8>, ok: &LinkOk) -> Result<(), NoMemory>
 
 #[tactic(auto, unfolding(nfs3_types::specs::Replies::fs_stat_ok, xdr_grammar::specs::Items::hyper, xdr_grammar::specs::Items::word))]
 fn put_fs_stat(out: &mut Vec<u8>, ok: &FsStatOk) -> Result<(), NoMemory>
-    ensures ok { OnOk result (out.new.items ≡ out.old.items ++ fs_stat_ok.spelling ok.now) }
-    ensures len { OnOk result (vec_len out.new ≡ vec_len out.old + fs_stat_ok.size ok.now) }
-    ensures room { vec_len out.old + fs_stat_ok.size ok.now ≤ vec_capacity out.old → IsOk result }
-    ensures capacity { vec_capacity out.old ≤ vec_capacity out.new }
+    ensures { Puts fs_stat_ok ok.now out.old out.new result }
 {
     put_post_op_attr(out, &ok.attributes)?;
     put_hyper(out, ok.tbytes)?;
@@ -130,10 +102,7 @@ fn put_fs_stat(out: &mut Vec<u8>, ok: &FsStatOk) -> Result<(), NoMemory>
 
 #[tactic(auto, unfolding(nfs3_types::specs::Replies::fs_info_ok, xdr_grammar::specs::Items::word, xdr_grammar::specs::Items::hyper))]
 fn put_fs_info(out: &mut Vec<u8>, ok: &FsInfoOk) -> Result<(), NoMemory>
-    ensures ok { OnOk result (out.new.items ≡ out.old.items ++ fs_info_ok.spelling ok.now) }
-    ensures len { OnOk result (vec_len out.new ≡ vec_len out.old + fs_info_ok.size ok.now) }
-    ensures room { vec_len out.old + fs_info_ok.size ok.now ≤ vec_capacity out.old → IsOk result }
-    ensures capacity { vec_capacity out.old ≤ vec_capacity out.new }
+    ensures { Puts fs_info_ok ok.now out.old out.new result }
 {
     put_post_op_attr(out, &ok.attributes)?;
     put_word(out, ok.rtmax)?;
@@ -150,10 +119,7 @@ fn put_fs_info(out: &mut Vec<u8>, ok: &FsInfoOk) -> Result<(), NoMemory>
 
 #[tactic(auto, unfolding(nfs3_types::specs::Replies::path_conf_ok, xdr_grammar::specs::Items::word, xdr_grammar::specs::Items::truth))]
 fn put_path_conf(out: &mut Vec<u8>, ok: &PathConfOk) -> Result<(), NoMemory>
-    ensures ok { OnOk result (out.new.items ≡ out.old.items ++ path_conf_ok.spelling ok.now) }
-    ensures len { OnOk result (vec_len out.new ≡ vec_len out.old + path_conf_ok.size ok.now) }
-    ensures room { vec_len out.old + path_conf_ok.size ok.now ≤ vec_capacity out.old → IsOk result }
-    ensures capacity { vec_capacity out.old ≤ vec_capacity out.new }
+    ensures { Puts path_conf_ok ok.now out.old out.new result }
 {
     put_post_op_attr(out, &ok.attributes)?;
     put_word(out, ok.linkmax)?;
@@ -166,10 +132,7 @@ fn put_path_conf(out: &mut Vec<u8>, ok: &PathConfOk) -> Result<(), NoMemory>
 
 #[tactic(auto, unfolding(nfs3_types::specs::Replies::commit_ok))]
 fn put_commit(out: &mut Vec<u8>, ok: &CommitOk) -> Result<(), NoMemory>
-    ensures ok { OnOk result (out.new.items ≡ out.old.items ++ commit_ok.spelling ok.now) }
-    ensures len { OnOk result (vec_len out.new ≡ vec_len out.old + commit_ok.size ok.now) }
-    ensures room { vec_len out.old + commit_ok.size ok.now ≤ vec_capacity out.old → IsOk result }
-    ensures capacity { vec_capacity out.old ≤ vec_capacity out.new }
+    ensures { Puts commit_ok ok.now out.old out.new result }
 {
     put_wcc(out, &ok.file)?;
     put_verifier(out, ok.verifier)
@@ -178,10 +141,7 @@ fn put_commit(out: &mut Vec<u8>, ok: &CommitOk) -> Result<(), NoMemory>
 #[tactic(auto, unfolding(nfs3_types::specs::Replies::read_dir_ok, xdr_grammar::specs::Items::truth, xdr_grammar::specs::Items::word))]
 fn put_read_dir(out: &mut Vec<u8>, ok: &ReadDirOk) -> Result<(), NoMemory>
     requires { read_dir_ok.Fits ok.now }
-    ensures ok { OnOk result (out.new.items ≡ out.old.items ++ read_dir_ok.spelling ok.now) }
-    ensures len { OnOk result (vec_len out.new ≡ vec_len out.old + read_dir_ok.size ok.now) }
-    ensures room { vec_len out.old + read_dir_ok.size ok.now ≤ vec_capacity out.old → IsOk result }
-    ensures capacity { vec_capacity out.old ≤ vec_capacity out.new }
+    ensures { Puts read_dir_ok ok.now out.old out.new result }
 {
     put_post_op_attr(out, &ok.attributes)?;
     put_verifier(out, ok.verifier)?;
@@ -192,10 +152,7 @@ fn put_read_dir(out: &mut Vec<u8>, ok: &ReadDirOk) -> Result<(), NoMemory>
 #[tactic(auto, unfolding(nfs3_types::specs::Replies::read_dir_plus_ok, xdr_grammar::specs::Items::truth, xdr_grammar::specs::Items::word))]
 fn put_read_dir_plus(out: &mut Vec<u8>, ok: &ReadDirPlusOk) -> Result<(), NoMemory>
     requires { read_dir_plus_ok.Fits ok.now }
-    ensures ok { OnOk result (out.new.items ≡ out.old.items ++ read_dir_plus_ok.spelling ok.now) }
-    ensures len { OnOk result (vec_len out.new ≡ vec_len out.old + read_dir_plus_ok.size ok.now) }
-    ensures room { vec_len out.old + read_dir_plus_ok.size ok.now ≤ vec_capacity out.old → IsOk result }
-    ensures capacity { vec_capacity out.old ≤ vec_capacity out.new }
+    ensures { Puts read_dir_plus_ok ok.now out.old out.new result }
 {
     put_post_op_attr(out, &ok.attributes)?;
     put_verifier(out, ok.verifier)?;
@@ -206,11 +163,8 @@ fn put_read_dir_plus(out: &mut Vec<u8>, ok: &ReadDirPlusOk) -> Result<(), NoMemo
 /// Adds what a result of status OK says.
 #[tactic(auto, unfolding(nfs3_types::specs::Replies::ok_body))]
 pub fn put_body(out: &mut Vec<u8>, body: &Body) -> Result<(), NoMemory>
-    requires { (ok_body (procedure_in body.now)).Fits body.now }
-    ensures ok { OnOk result (out.new.items ≡ out.old.items ++ (ok_body (procedure_in body.now)).spelling body.now) }
-    ensures len { OnOk result (vec_len out.new ≡ vec_len out.old + (ok_body (procedure_in body.now)).size body.now) }
-    ensures room { vec_len out.old + (ok_body (procedure_in body.now)).size body.now ≤ vec_capacity out.old → IsOk result }
-    ensures capacity { vec_capacity out.old ≤ vec_capacity out.new }
+    requires { (ok_body (said_by body.now)).Fits body.now }
+    ensures { Puts (ok_body (said_by body.now)) body.now out.old out.new result }
 {
     match body {
         Body::Null | Body::Nothing => Ok(()),
@@ -224,7 +178,6 @@ pub fn put_body(out: &mut Vec<u8>, body: &Body) -> Result<(), NoMemory>
         Body::Create(ok) => put_create(out, ok),
         Body::Mkdir(ok) => put_create(out, ok),
         Body::Symlink(ok) => put_create(out, ok),
-        Body::Mknod(ok) => put_create(out, ok),
         Body::Remove(ok) => put_wcc(out, ok),
         Body::Rmdir(ok) => put_wcc(out, ok),
         Body::Rename(ok) => put_rename(out, ok),

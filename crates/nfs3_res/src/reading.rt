@@ -12,7 +12,7 @@ use nfs3_items::{
 };
 use nfs3_types::{
     AccessOk, Body, CommitOk, CreateOk, FsInfoOk, FsStatOk, LinkOk, LookupOk, PathConfOk,
-    ReadDirOk, ReadDirPlusOk, ReadLinkOk, ReadOk, RenameOk, WriteOk,
+    Procedure, ReadDirOk, ReadDirPlusOk, ReadLinkOk, ReadOk, RenameOk, WriteOk,
 };
 use std::alloc::Global;
 use xdr::Reader;
@@ -190,31 +190,35 @@ fn read_read_dir_plus(alloc: Global, reader: &mut Reader<'_>) -> Result<ReadDirP
 
 /// Reads what the result of status OK of a procedure says.
 #[tactic(auto, unfolding(nfs3_types::specs::Replies::ok_body))]
-pub fn read_body(alloc: Global, procedure: u32, reader: &mut Reader<'_>) -> Result<Body, ResFault>
+pub fn read_body(
+    alloc: Global,
+    procedure: Procedure,
+    reader: &mut Reader<'_>,
+) -> Result<Body, ResFault>
     ensures { GivesOwn (ok_body procedure) reader.old reader.new result }
 {
     match procedure {
-        1 => Ok(Body::GetAttr(read_fattr(reader)?)),
-        2 => Ok(Body::SetAttr(read_wcc(reader)?)),
-        3 => Ok(Body::Lookup(read_lookup(alloc, reader)?)),
-        4 => Ok(Body::Access(read_access(reader)?)),
-        5 => Ok(Body::ReadLink(read_read_link(alloc, reader)?)),
-        6 => Ok(Body::Read(read_read(alloc, reader)?)),
-        7 => Ok(Body::Write(read_write(reader)?)),
-        8 => Ok(Body::Create(read_create(alloc, reader)?)),
-        9 => Ok(Body::Mkdir(read_create(alloc, reader)?)),
-        10 => Ok(Body::Symlink(read_create(alloc, reader)?)),
-        11 => Ok(Body::Mknod(read_create(alloc, reader)?)),
-        12 => Ok(Body::Remove(read_wcc(reader)?)),
-        13 => Ok(Body::Rmdir(read_wcc(reader)?)),
-        14 => Ok(Body::Rename(read_rename(reader)?)),
-        15 => Ok(Body::Link(read_link(reader)?)),
-        16 => Ok(Body::ReadDir(read_read_dir(alloc, reader)?)),
-        17 => Ok(Body::ReadDirPlus(read_read_dir_plus(alloc, reader)?)),
-        18 => Ok(Body::FsStat(read_fs_stat(reader)?)),
-        19 => Ok(Body::FsInfo(read_fs_info(reader)?)),
-        20 => Ok(Body::PathConf(read_path_conf(reader)?)),
-        21 => Ok(Body::Commit(read_commit(reader)?)),
-        _ => Ok(Body::Null),
+        Procedure::GetAttr => Ok(Body::GetAttr(read_fattr(reader)?)),
+        Procedure::SetAttr => Ok(Body::SetAttr(read_wcc(reader)?)),
+        Procedure::Lookup => Ok(Body::Lookup(read_lookup(alloc, reader)?)),
+        Procedure::Access => Ok(Body::Access(read_access(reader)?)),
+        Procedure::ReadLink => Ok(Body::ReadLink(read_read_link(alloc, reader)?)),
+        Procedure::Read => Ok(Body::Read(read_read(alloc, reader)?)),
+        Procedure::Write => Ok(Body::Write(read_write(reader)?)),
+        Procedure::Create => Ok(Body::Create(read_create(alloc, reader)?)),
+        Procedure::Mkdir => Ok(Body::Mkdir(read_create(alloc, reader)?)),
+        Procedure::Symlink => Ok(Body::Symlink(read_create(alloc, reader)?)),
+        Procedure::Mknod => Err(ResFault::Bad(XdrFault::BadEnum)),
+        Procedure::Remove => Ok(Body::Remove(read_wcc(reader)?)),
+        Procedure::Rmdir => Ok(Body::Rmdir(read_wcc(reader)?)),
+        Procedure::Rename => Ok(Body::Rename(read_rename(reader)?)),
+        Procedure::Link => Ok(Body::Link(read_link(reader)?)),
+        Procedure::ReadDir => Ok(Body::ReadDir(read_read_dir(alloc, reader)?)),
+        Procedure::ReadDirPlus => Ok(Body::ReadDirPlus(read_read_dir_plus(alloc, reader)?)),
+        Procedure::FsStat => Ok(Body::FsStat(read_fs_stat(reader)?)),
+        Procedure::FsInfo => Ok(Body::FsInfo(read_fs_info(reader)?)),
+        Procedure::PathConf => Ok(Body::PathConf(read_path_conf(reader)?)),
+        Procedure::Commit => Ok(Body::Commit(read_commit(reader)?)),
+        Procedure::Null => Ok(Body::Null),
     }
 }

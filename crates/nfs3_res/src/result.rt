@@ -10,42 +10,59 @@ use crate::fault::ResFault;
 use crate::reading::{read_body, read_link, read_rename};
 use crate::status::succeeded;
 use nfs3_items::{read_post_op_attr, read_status, read_wcc};
-use nfs3_types::{Body, Reply, Status};
+use nfs3_types::{Body, Procedure, Reply, Status};
 use std::alloc::Global;
 use xdr::Reader;
 use xdr_grammar::XdrFault;
 
 /// Reads what a result of another status than OK says, and drops it.
-#[tactic(auto, unfolding(nfs3_types::specs::Replies::refusal))]
-fn skip_refusal(procedure: u32, reader: &mut Reader<'_>) -> Result<(), XdrFault>
+#[tactic(auto, unfolding(nfs3_types::specs::Replies::told))]
+fn skip_refusal(procedure: Procedure, reader: &mut Reader<'_>) -> Result<(), XdrFault>
     ensures { Passes (refusal procedure) reader.old reader.new result }
 {
     match procedure {
-        1 => {}
-        2 | 7 | 8 | 9 | 10 | 11 | 12 | 13 | 21 => {
+        Procedure::Null | Procedure::GetAttr => {}
+        Procedure::Lookup
+        | Procedure::Access
+        | Procedure::ReadLink
+        | Procedure::Read
+        | Procedure::ReadDir
+        | Procedure::ReadDirPlus
+        | Procedure::FsStat
+        | Procedure::FsInfo
+        | Procedure::PathConf => {
+            read_post_op_attr(reader)?;
+        }
+        Procedure::SetAttr
+        | Procedure::Write
+        | Procedure::Create
+        | Procedure::Mkdir
+        | Procedure::Symlink
+        | Procedure::Mknod
+        | Procedure::Remove
+        | Procedure::Rmdir
+        | Procedure::Commit => {
             read_wcc(reader)?;
         }
-        14 => {
-            read_rename(reader)?;
-        }
-        15 => {
+        Procedure::Link => {
             read_link(reader)?;
         }
-        _ => {
-            read_post_op_attr(reader)?;
+        Procedure::Rename => {
+            read_rename(reader)?;
         }
     }
     Ok(())
 }
 
 /// Reads the result of a procedure.
-#[tactic(auto, unfolding(nfs3_types::specs::Replies::result_of, nfs3_types::specs::Replies::result_with_status))]
-fn read_result(alloc: Global, procedure: u32, reader: &mut Reader<'_>) -> Result<Reply, ResFault>
-    ensures { Tells (reply_at procedure reader.old) reader.new result }
+#[tactic(auto, unfolding(nfs3_types::specs::Replies::result_of, nfs3_types::specs::Replies::result, nfs3_types::specs::Replies::result_with_status))]
+fn read_result(alloc: Global, number: u32, reader: &mut Reader<'_>) -> Result<Reply, ResFault>
+    ensures { Tells (reply_at number reader.old) reader.new result }
 {
-    if procedure == 0 {
+    let procedure = Procedure::at(number);
+    if !procedure.has_status() {
         return Ok(Reply {
-            procedure,
+            procedure: number,
             status: Status::Ok,
             body: Body::Null,
         });
@@ -54,14 +71,14 @@ fn read_result(alloc: Global, procedure: u32, reader: &mut Reader<'_>) -> Result
     if succeeded(status) {
         let body = read_body(alloc, procedure, reader)?;
         Ok(Reply {
-            procedure,
+            procedure: number,
             status,
             body,
         })
     } else {
         skip_refusal(procedure, reader)?;
         Ok(Reply {
-            procedure,
+            procedure: number,
             status,
             body: Body::Nothing,
         })

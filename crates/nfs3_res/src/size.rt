@@ -2,8 +2,8 @@
 
 ghost use Rattle.std.specs.Prelude.{◌≡◌, ◌-◌, ◌^◌, ◌<◌, ◌≤◌};
 ghost use Rattle.nfs3_types.specs.Attributes.{fattr};
-ghost use Rattle.nfs3_types.specs.Replies.{lookup_ok, access_ok, read_link_ok, read_ok, write_ok, create_ok, rename_ok, link_ok, fs_stat_ok, fs_info_ok, path_conf_ok, commit_ok, read_dir_ok, read_dir_plus_ok, ok_body, refusal, nothing_told, result_of, outcome_of};
-ghost use Rattle.nfs3_res.specs.Spelled.{procedure_in, IsSpelled};
+ghost use Rattle.nfs3_types.specs.Replies.{lookup_ok, access_ok, read_link_ok, read_ok, write_ok, create_ok, rename_ok, link_ok, fs_stat_ok, fs_info_ok, path_conf_ok, commit_ok, read_dir_ok, read_dir_plus_ok, ok_body, said_by, refusal, telling, nothing_in, result_of, outcome_of};
+ghost use Rattle.nfs3_res.specs.Spelled.{IsSpelled};
 
 use crate::items::entries_size;
 use crate::status::succeeded;
@@ -11,7 +11,7 @@ use crate::texts::{handle_size, post_op_handle_size, text_size};
 use nfs3_items::{post_op_attr_size, wcc_size};
 use nfs3_types::{
     AccessOk, Body, CommitOk, CreateOk, FsInfoOk, FsStatOk, LinkOk, LookupOk, PathConfOk,
-    ReadDirOk, ReadDirPlusOk, ReadLinkOk, ReadOk, RenameOk, Reply, WriteOk,
+    Procedure, ReadDirOk, ReadDirPlusOk, ReadLinkOk, ReadOk, RenameOk, Reply, WriteOk,
 };
 
 #[tactic(auto, unfolding(nfs3_types::specs::Replies::lookup_ok))]
@@ -135,9 +135,9 @@ fn read_dir_plus_size(ok: &ReadDirPlusOk) -> usize
 /// The size of what a result of status OK says.
 #[tactic(auto, unfolding(nfs3_types::specs::Replies::ok_body, nfs3_types::specs::Attributes::fattr, nfs3_types::specs::FileTypes::file_type, xdr_grammar::specs::Enumerations::enumeration, nfs3_types::specs::Attributes::spec_data, nfs3_types::specs::Attributes::time, xdr_grammar::specs::Items::word, xdr_grammar::specs::Items::hyper))]
 fn body_size(body: &Body) -> usize
-    requires spelled { (ok_body (procedure_in body.now)).Fits body.now }
-    requires short { (ok_body (procedure_in body.now)).size body.now < 2 ^ 31 }
-    ensures { result ≡ (ok_body (procedure_in body.now)).size body.now }
+    requires spelled { (ok_body (said_by body.now)).Fits body.now }
+    requires short { (ok_body (said_by body.now)).size body.now < 2 ^ 31 }
+    ensures { result ≡ (ok_body (said_by body.now)).size body.now }
 {
     match body {
         Body::Null | Body::Nothing => 0,
@@ -151,7 +151,6 @@ fn body_size(body: &Body) -> usize
         Body::Create(ok) => create_size(ok),
         Body::Mkdir(ok) => create_size(ok),
         Body::Symlink(ok) => create_size(ok),
-        Body::Mknod(ok) => create_size(ok),
         Body::Remove(ok) => wcc_size(ok),
         Body::Rmdir(ok) => wcc_size(ok),
         Body::Rename(ok) => rename_size(ok),
@@ -166,31 +165,48 @@ fn body_size(body: &Body) -> usize
 }
 
 /// The size of what a result of another status than OK says, each optional item absent.
-#[tactic(auto, unfolding(nfs3_types::specs::Replies::refusal, nfs3_types::specs::Replies::rename_ok, nfs3_types::specs::Replies::link_ok, nfs3_types::specs::Attributes::wcc_data, nfs3_types::specs::Attributes::pre_op_attr, nfs3_types::specs::Attributes::post_op_attr, xdr_grammar::specs::Items::truth, xdr_grammar::specs::Items::word))]
-fn refusal_size(procedure: u32) -> usize
-    ensures is { result ≡ (refusal procedure).size (nothing_told procedure) }
+#[tactic(auto, unfolding(nfs3_types::specs::Replies::told, nfs3_types::specs::Replies::rename_ok, nfs3_types::specs::Replies::link_ok, nfs3_types::specs::Attributes::wcc_data, nfs3_types::specs::Attributes::pre_op_attr, nfs3_types::specs::Attributes::post_op_attr, xdr_grammar::specs::Items::truth, xdr_grammar::specs::Items::word))]
+fn refusal_size(procedure: Procedure) -> usize
+    ensures is { result ≡ (refusal procedure).size (nothing_in (telling procedure)) }
     ensures small { result ≤ 16 }
 {
     match procedure {
-        1 => 0,
-        2 | 7 | 8 | 9 | 10 | 11 | 12 | 13 | 21 => 8,
-        14 => 16,
-        15 => 12,
-        _ => 4,
+        Procedure::Null | Procedure::GetAttr => 0,
+        Procedure::Lookup
+        | Procedure::Access
+        | Procedure::ReadLink
+        | Procedure::Read
+        | Procedure::ReadDir
+        | Procedure::ReadDirPlus
+        | Procedure::FsStat
+        | Procedure::FsInfo
+        | Procedure::PathConf => 4,
+        Procedure::SetAttr
+        | Procedure::Write
+        | Procedure::Create
+        | Procedure::Mkdir
+        | Procedure::Symlink
+        | Procedure::Mknod
+        | Procedure::Remove
+        | Procedure::Rmdir
+        | Procedure::Commit => 8,
+        Procedure::Link => 12,
+        Procedure::Rename => 16,
     }
 }
 
 /// How many bytes [`write_reply`](crate::write_reply) adds for a reply, whose result has to have a spelling.
-#[tactic(auto, unfolding(nfs3_types::specs::Replies::result_of, nfs3_types::specs::Replies::result_with_status, nfs3_types::specs::Statuses::status, xdr_grammar::specs::Enumerations::enumeration, xdr_grammar::specs::Items::word))]
+#[tactic(auto, unfolding(nfs3_types::specs::Replies::result_of, nfs3_types::specs::Replies::result, nfs3_types::specs::Replies::result_with_status, nfs3_types::specs::Statuses::status, xdr_grammar::specs::Enumerations::enumeration, xdr_grammar::specs::Items::word))]
 pub fn reply_size(r: &Reply) -> usize
     requires { IsSpelled r.now }
     ensures { result ≡ (result_of r.now.procedure).size (outcome_of r.now) }
 {
-    if r.procedure == 0 {
+    let procedure = Procedure::at(r.procedure);
+    if !procedure.has_status() {
         0
     } else if succeeded(r.status) {
         4 + body_size(&r.body)
     } else {
-        4 + refusal_size(r.procedure)
+        4 + refusal_size(procedure)
     }
 }

@@ -1,6 +1,7 @@
 //! Handles, names and content of results, which are owned.
 
-ghost use Rattle.std.specs.Prelude.{◌≡◌, ◌+◌, ◌^◌, ◌<◌, ◌≤◌, ◌++◌, vec_len, vec_capacity, OnOk, IsOk};
+ghost use Rattle.std.specs.Prelude.{◌≡◌, ◌+◌, ◌^◌, ◌<◌};
+ghost use Rattle.xdr_grammar.specs.Writing.{Puts};
 ghost use Rattle.nfs3_types.specs.Handles.{file_handle, post_op_handle};
 ghost use Rattle.nfs3_types.specs.Calls.{text as text_grammar};
 ghost use Rattle.nfs3_res.specs.Reading.{GivesOwn};
@@ -39,10 +40,7 @@ pub fn own_post_op_handle(alloc: Global, reader: &mut Reader<'_>) -> Result<Opti
 #[tactic(auto, unfolding(nfs3_types::specs::Handles::file_handle, xdr_grammar::specs::Items::opaque, xdr_grammar::specs::Items::word))]
 pub fn put_handle(out: &mut Vec<u8>, handle: &Text) -> Result<(), NoMemory>
     requires { file_handle.Fits handle.now }
-    ensures ok { OnOk result (out.new.items ≡ out.old.items ++ file_handle.spelling handle.now) }
-    ensures len { OnOk result (vec_len out.new ≡ vec_len out.old + file_handle.size handle.now) }
-    ensures room { vec_len out.old + file_handle.size handle.now ≤ vec_capacity out.old → IsOk result }
-    ensures capacity { vec_capacity out.old ≤ vec_capacity out.new }
+    ensures { Puts file_handle handle.now out.old out.new result }
 {
     nfs3_items::put_handle(out, handle.as_slice())
 }
@@ -50,10 +48,7 @@ pub fn put_handle(out: &mut Vec<u8>, handle: &Text) -> Result<(), NoMemory>
 #[tactic(auto, unfolding(nfs3_types::specs::Handles::post_op_handle, nfs3_types::specs::Handles::file_handle, xdr_grammar::specs::Items::truth, xdr_grammar::specs::Items::opaque, xdr_grammar::specs::Items::word))]
 pub fn put_post_op_handle(out: &mut Vec<u8>, handle: &Option<Text>) -> Result<(), NoMemory>
     requires { post_op_handle.Fits handle.now }
-    ensures ok { OnOk result (out.new.items ≡ out.old.items ++ post_op_handle.spelling handle.now) }
-    ensures len { OnOk result (vec_len out.new ≡ vec_len out.old + post_op_handle.size handle.now) }
-    ensures room { vec_len out.old + post_op_handle.size handle.now ≤ vec_capacity out.old → IsOk result }
-    ensures capacity { vec_capacity out.old ≤ vec_capacity out.new }
+    ensures { Puts post_op_handle handle.now out.old out.new result }
 {
     nfs3_items::put_post_op_handle(out, handle)
 }
@@ -61,10 +56,7 @@ pub fn put_post_op_handle(out: &mut Vec<u8>, handle: &Option<Text>) -> Result<()
 #[tactic(auto, unfolding(nfs3_types::specs::Calls::text, xdr_grammar::specs::Items::opaque, xdr_grammar::specs::Items::word))]
 pub fn put_text(out: &mut Vec<u8>, text: &Text) -> Result<(), NoMemory>
     requires { text_grammar.Fits text.now }
-    ensures ok { OnOk result (out.new.items ≡ out.old.items ++ text_grammar.spelling text.now) }
-    ensures len { OnOk result (vec_len out.new ≡ vec_len out.old + text_grammar.size text.now) }
-    ensures room { vec_len out.old + text_grammar.size text.now ≤ vec_capacity out.old → IsOk result }
-    ensures capacity { vec_capacity out.old ≤ vec_capacity out.new }
+    ensures { Puts text_grammar text.now out.old out.new result }
 {
     nfs3_items::put_text(out, text.as_slice())
 }

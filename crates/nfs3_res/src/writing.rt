@@ -1,14 +1,15 @@
 //! Writing results.
 
-ghost use Rattle.std.specs.Prelude.{◌≡◌, ◌+◌, ◌≤◌, ◌++◌, vec_len, vec_capacity, OnOk, OnErr, IsOk};
-ghost use Rattle.nfs3_types.specs.Replies.{refusal, nothing_told, result_of, outcome_of};
+ghost use Rattle.std.specs.Prelude.{◌≡◌, OnErr};
+ghost use Rattle.xdr_grammar.specs.Writing.{Puts};
+ghost use Rattle.nfs3_types.specs.Replies.{telling, refusal, nothing_in, result_of, outcome_of};
 ghost use Rattle.nfs3_res.specs.Spelled.{IsSpelled};
 
 use crate::putting::{put_body, put_link, put_rename};
 use crate::size::reply_size;
 use crate::status::succeeded;
 use nfs3_items::{put_post_op_attr, put_status, put_wcc};
-use nfs3_types::{LinkOk, NoMemory, RenameOk, Reply, Wcc};
+use nfs3_types::{LinkOk, NoMemory, Procedure, RenameOk, Reply, Wcc};
 
 /// No attributes.
 const ABSENT: Wcc = Wcc {
@@ -17,51 +18,62 @@ const ABSENT: Wcc = Wcc {
 };
 
 /// Adds what a result of another status than OK says, each optional item absent.
-#[tactic(auto, unfolding(nfs3_types::specs::Replies::refusal))]
-fn put_refusal(out: &mut Vec<u8>, procedure: u32) -> Result<(), NoMemory>
-    ensures ok { OnOk result (out.new.items ≡ out.old.items ++ (refusal procedure).spelling (nothing_told procedure)) }
-    ensures len { OnOk result (vec_len out.new ≡ vec_len out.old + (refusal procedure).size (nothing_told procedure)) }
-    ensures room { vec_len out.old + (refusal procedure).size (nothing_told procedure) ≤ vec_capacity out.old → IsOk result }
-    ensures capacity { vec_capacity out.old ≤ vec_capacity out.new }
+#[tactic(auto, unfolding(nfs3_types::specs::Replies::told))]
+fn put_refusal(out: &mut Vec<u8>, procedure: Procedure) -> Result<(), NoMemory>
+    ensures { Puts (refusal procedure) (nothing_in (telling procedure)) out.old out.new result }
 {
     match procedure {
-        1 => Ok(()),
-        2 | 7 | 8 | 9 | 10 | 11 | 12 | 13 | 21 => put_wcc(out, &ABSENT),
-        14 => put_rename(
-            out,
-            &RenameOk {
-                from: ABSENT,
-                to: ABSENT,
-            },
-        ),
-        15 => put_link(
+        Procedure::Null | Procedure::GetAttr => Ok(()),
+        Procedure::Lookup
+        | Procedure::Access
+        | Procedure::ReadLink
+        | Procedure::Read
+        | Procedure::ReadDir
+        | Procedure::ReadDirPlus
+        | Procedure::FsStat
+        | Procedure::FsInfo
+        | Procedure::PathConf => put_post_op_attr(out, &None),
+        Procedure::SetAttr
+        | Procedure::Write
+        | Procedure::Create
+        | Procedure::Mkdir
+        | Procedure::Symlink
+        | Procedure::Mknod
+        | Procedure::Remove
+        | Procedure::Rmdir
+        | Procedure::Commit => put_wcc(out, &ABSENT),
+        Procedure::Link => put_link(
             out,
             &LinkOk {
                 attributes: None,
                 directory: ABSENT,
             },
         ),
-        _ => put_post_op_attr(out, &None),
+        Procedure::Rename => put_rename(
+            out,
+            &RenameOk {
+                from: ABSENT,
+                to: ABSENT,
+            },
+        ),
     }
 }
 
 /// Adds a result into room that was reserved.
-#[tactic(auto, unfolding(nfs3_types::specs::Replies::result_of, nfs3_types::specs::Replies::result_with_status))]
+#[tactic(auto, unfolding(nfs3_types::specs::Replies::result_of, nfs3_types::specs::Replies::result, nfs3_types::specs::Replies::result_with_status))]
 fn put_result(out: &mut Vec<u8>, r: &Reply) -> Result<(), NoMemory>
     requires { IsSpelled r.now }
-    ensures ok { OnOk result (out.new.items ≡ out.old.items ++ (result_of r.now.procedure).spelling (outcome_of r.now)) }
-    ensures len { OnOk result (vec_len out.new ≡ vec_len out.old + (result_of r.now.procedure).size (outcome_of r.now)) }
-    ensures room { vec_len out.old + (result_of r.now.procedure).size (outcome_of r.now) ≤ vec_capacity out.old → IsOk result }
-    ensures capacity { vec_capacity out.old ≤ vec_capacity out.new }
+    ensures { Puts (result_of r.now.procedure) (outcome_of r.now) out.old out.new result }
 {
-    if r.procedure == 0 {
+    let procedure = Procedure::at(r.procedure);
+    if !procedure.has_status() {
         return Ok(());
     }
     put_status(out, r.status)?;
     if succeeded(r.status) {
         put_body(out, &r.body)
     } else {
-        put_refusal(out, r.procedure)
+        put_refusal(out, procedure)
     }
 }
 
@@ -70,11 +82,8 @@ fn put_result(out: &mut Vec<u8>, r: &Reply) -> Result<(), NoMemory>
 /// no bytes. At `NoMemory` the buffer holds what it held.
 pub fn write_reply(r: &Reply, out: &mut Vec<u8>) -> Result<(), NoMemory>
     requires { IsSpelled r.now }
-    ensures ok { OnOk result (out.new.items ≡ out.old.items ++ (result_of r.now.procedure).spelling (outcome_of r.now)) }
-    ensures len { OnOk result (vec_len out.new ≡ vec_len out.old + (result_of r.now.procedure).size (outcome_of r.now)) }
+    ensures puts { Puts (result_of r.now.procedure) (outcome_of r.now) out.old out.new result }
     ensures err { OnErr result (out.new.items ≡ out.old.items) }
-    ensures room { vec_len out.old + (result_of r.now.procedure).size (outcome_of r.now) ≤ vec_capacity out.old → IsOk result }
-    ensures capacity { vec_capacity out.old ≤ vec_capacity out.new }
 {
     out.reserve(reply_size(r))?;
     put_result(out, r)

@@ -1,7 +1,13 @@
-use Rattle.std.proofs.Common.{rules, append_assoc}
+use Rattle.std.proofs.Common.{rules, append_assoc, arith}
 use Rattle.nfs3_types.specs.Calls.{file_range}
 use Rattle.nfs3_args.proofs.putting.put_file_range.Goals as goal
 
-pub returns-clause-ok : goal.returns-clause-ok
+pub returns : goal.returns
 unfolding file_range
-returns-clause-ok c = search (rules, append_assoc)
+returns c = record {
+  ok = search (rules, append_assoc);
+  len = search rules;
+  front = λ front h. search rules;
+  room = λ enough. search rules;
+  capacity = omega arith;
+}

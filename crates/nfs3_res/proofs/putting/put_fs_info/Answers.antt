@@ -1,7 +1,13 @@
-use Rattle.std.proofs.Common.{rules, append_assoc}
+use Rattle.std.proofs.Common.{rules, append_assoc, arith}
 use Rattle.nfs3_types.specs.Replies.{fs_info_ok}
 use Rattle.nfs3_res.proofs.putting.put_fs_info.Goals as goal
 
-pub returns-clause-ok : goal.returns-clause-ok
+pub returns : goal.returns
 unfolding fs_info_ok
-returns-clause-ok c = search (rules, append_assoc)
+returns c = record {
+  ok = search (rules, append_assoc);
+  len = search rules;
+  front = λ front h. search rules;
+  room = λ enough. search rules;
+  capacity = omega arith;
+}

@@ -1,21 +1,34 @@
-use Rattle.std.proofs.Common.{◌∙◌, sym, arith}
-use Rattle.nfs3_res.proofs.Bodies.{success_fits, success_parts, text_behind, long_behind}
+use Rattle.std.proofs.Common.{◌≡◌, subst, true, false, rules}
+use Rattle.xdr_grammar.specs.Writing.{Puts}
+use Rattle.xdr_grammar.proofs.Writing.{behind}
+use Rattle.nfs3_types.specs.declared.procedure.Procedure.{Procedure}
+use Rattle.nfs3_types.specs.Procedures.{procedure_at, has_status}
+use Rattle.nfs3_types.specs.Statuses.{status}
+use Rattle.nfs3_types.specs.Replies.{ok_body, said_by, refusal, result_of, outcome_of, is_ok}
+use Rattle.nfs3_res.proofs.Bodies.{success_fits, success_parts, failure_parts, silence}
 use Rattle.nfs3_res.proofs.writing.put_result.Goals as goal
 
 pub put_body-requires : goal.put_body-requires
-put_body-requires c = success_fits c.args.r.now c.requires c.if-r-eq0.false (sym c.succeeded.ensures ∙ c.if-succeeded.true)
+put_body-requires c =
+    let r = c.args.r.now in
+    let has : has_status (procedure_at r.procedure) ≡ true = cc in
+    let ok : is_ok r.status ≡ true = cc in
+    success_fits r c.requires has ok
 
-pub returns-then-succeeded-clause-ok : goal.returns-then-succeeded-clause-ok
-returns-then-succeeded-clause-ok c =
-    let parts = success_parts c.args.r.now c.requires c.if-r-eq0.false (sym c.succeeded.ensures ∙ c.if-succeeded.true) in
-    text_behind c.put_body.result _ _ _ _ _ _ c.put_body.ensures.ok c.in_ok-put_status.ensures.ok parts.text
+pub returns-then-succeeded : goal.returns-then-succeeded
+returns-then-succeeded c =
+    let r = c.args.r.now in
+    let has : has_status (procedure_at r.procedure) ≡ true = cc in
+    let ok : is_ok r.status ≡ true = cc in
+    let parts = success_parts r c.requires has ok in
+    behind status (ok_body (said_by r.body)) (result_of r.procedure) r.status r.body (outcome_of r) c.args.out.now c.put_status.new.out c.put_body.new.out c.put_status.result c.put_body.result parts.text parts.size (search rules) c.put_status.ensures c.put_body.ensures
 
-pub returns-then-succeeded-clause-len : goal.returns-then-succeeded-clause-len
-returns-then-succeeded-clause-len c =
-    let parts = success_parts c.args.r.now c.requires c.if-r-eq0.false (sym c.succeeded.ensures ∙ c.if-succeeded.true) in
-    long_behind c.put_body.result _ _ _ _ _ _ c.put_body.ensures.len c.in_ok-put_status.ensures.len parts.size
-
-pub returns-then-succeeded-clause-room : goal.returns-then-succeeded-clause-room
-returns-then-succeeded-clause-room c =
-    let parts = success_parts c.args.r.now c.requires c.if-r-eq0.false (sym c.succeeded.ensures ∙ c.if-succeeded.true) in
-    λ enough. c.put_body.ensures.room (omega (arith, enough, parts.size, c.in_ok-put_status.ensures.len, c.put_status.ensures.capacity))
+pub returns-else-succeeded : goal.returns-else-succeeded
+returns-else-succeeded c =
+    let r = c.args.r.now in
+    let p = procedure_at r.procedure in
+    let has : has_status p ≡ true = cc in
+    let failed : is_ok r.status ≡ false = cc in
+    let parts = failure_parts r has failed in
+    behind status (refusal p) (result_of r.procedure) r.status (silence p) (outcome_of r) c.args.out.now c.put_status.new.out c.put_refusal.new.out c.put_status.result c.put_refusal.result parts.text parts.size (search rules) c.put_status.ensures
+    (subst (λ (q : Procedure). Puts (refusal q) (silence q) c.put_status.new.out c.put_refusal.new.out c.put_refusal.result) c.at-procedure.ensures c.put_refusal.ensures)
