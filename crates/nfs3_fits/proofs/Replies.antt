@@ -1,18 +1,21 @@
 -- A reply of this shape is spelled where its body has a spelling.
-use Rattle.std.proofs.Common.{◌≡◌, ℕ, ◌-◌, ◌^◌, ◌<◌, ◌≤◌, Bool, true, false, refl, arith}
+use Rattle.std.proofs.Common.{◌≡◌, ℕ, ◌+◌, ◌≤◌, Bool, true, false, refl, ap, ◌∙◌, arith}
 use Rattle.xdr_grammar.specs.Items.{word}
 use Rattle.xdr_grammar.specs.Enumerations.{enumeration}
 use Rattle.nfs3_types.specs.declared.body.Body.{Body}
-use Rattle.nfs3_types.specs.declared.body.Body.TheVariants.{Null, GetAttr, SetAttr, Lookup, Access, ReadLink, Read, Write, Create, Mkdir, Symlink, Mknod, Remove, Rmdir, Rename, Link, ReadDir, ReadDirPlus, FsStat, FsInfo, PathConf, Commit, Nothing}
+use Rattle.nfs3_types.specs.declared.body.Body.TheVariants.{Null, GetAttr, SetAttr, Lookup, Access, ReadLink, Read, Write, Create, Mkdir, Symlink, Remove, Rmdir, Rename, Link, ReadDir, ReadDirPlus, FsStat, FsInfo, PathConf, Commit, Nothing}
+use Rattle.nfs3_types.specs.declared.procedure.Procedure.{Procedure}
 use Rattle.nfs3_types.specs.declared.reply.Reply.{Reply}
 use Rattle.nfs3_types.specs.declared.status.Status.TheVariants.{Ok as StatusOk}
 use Rattle.nfs3_types.specs.Statuses.{status}
-use Rattle.nfs3_types.specs.Replies.Outcome.{Success, Failure}
-use Rattle.nfs3_types.specs.Replies.{ok_body, nothing_told, is_ok, result_with_status, result_of}
+use Rattle.nfs3_types.specs.Procedures.{procedure_number, procedure_named, has_status}
+use Rattle.nfs3_types.specs.Replies.Outcome.{Success}
+use Rattle.nfs3_types.specs.Replies.{ok_body, said_by, is_ok, result_with_status, result, result_of, outcome_of}
+use Rattle.nfs3_types.proofs.ProcedureLaws.{procedure_at-number}
 use Rattle.nfs3_res.specs.Spelled.{procedure_in, IsSpelled}
-use Rattle.nfs3_res.proofs.Bodies.{status_long, has_status}
-use Rattle.nfs3_res.proofs.Refusals.{is_bare}
-use Rattle.nfs3_fits.specs.Shape.{IsWithin, IsBodyOf, HasStatus, Says, HasShape}
+use Rattle.nfs3_res.proofs.Bodies.{status_long, with_status}
+use Rattle.nfs3_res.proofs.Refusals.{FailsSo, fails_so, number_has}
+use Rattle.nfs3_fits.specs.Shape.{IsWithin, IsBodyOf, IsFailure, Says, HasShape}
 use Rattle.nfs3_fits.proofs.Sizes.{body_small}
 
 status_fits : status.Fits StatusOk
@@ -21,66 +24,91 @@ status_fits = record { first = record { fits = omega arith; passes = refl }; sec
 
 -- ---- of status OK
 
--- a body that is said has a spelling, and not a long one
-record IsSaid (p : ℕ) (b : Body) : Type 0 where
-  last : p ≤ 21
-  fits : (result_of p).Fits (Success b)
-  short : (result_of p).size (Success b) < 2 ^ 31 - 24
+-- the result of a procedure that has a status, by its number
+result_named : (p : Procedure) → has_status p ≡ true → result_of (procedure_number p) ≡ result_with_status p
+result_named p has = with_status (procedure_number p) (ap has_status (procedure_at-number p) ∙ has) ∙ ap result_with_status (procedure_at-number p)
 
-said : (p : ℕ) (b : Body) → p ≤ 21 → (p ≡ 0 → ⊥) → (ok_body p).Fits b → (ok_body p).size b ≤ 2 ^ 24 → IsSaid p b
+ok_fits : (p : Procedure) (b : Body) → (ok_body p).Fits b → (result_with_status p).Fits (Success b)
 unfolding result_with_status
-said p b last named fits short = record {
-  last = last;
-  fits = rw (has_status p named) (record { first = status_fits; second = record { value = b; made = refl; fits = fits } });
-  short = rw (has_status p named) (omega (arith, status_long StatusOk, short));
-}
+ok_fits p b fits = record { first = status_fits; second = record { value = b; made = refl; fits = fits } }
+
+ok_size : (p : Procedure) (b : Body) → (result_with_status p).size (Success b) ≡ status.size StatusOk + (ok_body p).size b
+unfolding result_with_status
+ok_size p b = refl
+
+-- a body that is said has a spelling, and not a long one
+record IsSaid (n : ℕ) (b : Body) : Type 0 where
+  last : n ≤ 21
+  short : (result_of n).size (Success b) ≤ 43802
+  fits : (ok_body (said_by b)).Fits b → (result_of n).Fits (Success b)
+
+said : (b : Body) → has_status (said_by b) ≡ true → procedure_in b ≤ 21 → (ok_body (said_by b)).size b ≤ 43798 → IsSaid (procedure_in b) b
+said b has last short =
+    let is = result_named (said_by b) has in
+    record {
+      last = last;
+      short = rw is (omega (arith, ok_size (said_by b) b, status_long StatusOk, short));
+      fits = λ f. rw is (ok_fits (said_by b) b f);
+    }
 
 said_null : IsSaid 0 Null
-unfolding result_of
-said_null = record { last = omega arith; fits = refl; short = omega arith }
+unfolding result_of result procedure_named
+said_null = record { last = omega arith; short = omega arith; fits = λ f. refl }
 
-said_body : (b : Body) → IsWithin b → (ok_body (procedure_in b)).Fits b → IsSaid (procedure_in b) b
-said_body Null w f = said_null
-said_body Nothing w f = absurd w
-said_body (GetAttr ok) w f = said 1 (GetAttr ok) (omega arith) (λ e. omega (arith, e)) f (body_small (GetAttr ok) w)
-said_body (SetAttr ok) w f = said 2 (SetAttr ok) (omega arith) (λ e. omega (arith, e)) f (body_small (SetAttr ok) w)
-said_body (Lookup ok) w f = said 3 (Lookup ok) (omega arith) (λ e. omega (arith, e)) f (body_small (Lookup ok) w)
-said_body (Access ok) w f = said 4 (Access ok) (omega arith) (λ e. omega (arith, e)) f (body_small (Access ok) w)
-said_body (ReadLink ok) w f = said 5 (ReadLink ok) (omega arith) (λ e. omega (arith, e)) f (body_small (ReadLink ok) w)
-said_body (Read ok) w f = said 6 (Read ok) (omega arith) (λ e. omega (arith, e)) f (body_small (Read ok) w)
-said_body (Write ok) w f = said 7 (Write ok) (omega arith) (λ e. omega (arith, e)) f (body_small (Write ok) w)
-said_body (Create ok) w f = said 8 (Create ok) (omega arith) (λ e. omega (arith, e)) f (body_small (Create ok) w)
-said_body (Mkdir ok) w f = said 9 (Mkdir ok) (omega arith) (λ e. omega (arith, e)) f (body_small (Mkdir ok) w)
-said_body (Symlink ok) w f = said 10 (Symlink ok) (omega arith) (λ e. omega (arith, e)) f (body_small (Symlink ok) w)
-said_body (Mknod ok) w f = said 11 (Mknod ok) (omega arith) (λ e. omega (arith, e)) f (body_small (Mknod ok) w)
-said_body (Remove ok) w f = said 12 (Remove ok) (omega arith) (λ e. omega (arith, e)) f (body_small (Remove ok) w)
-said_body (Rmdir ok) w f = said 13 (Rmdir ok) (omega arith) (λ e. omega (arith, e)) f (body_small (Rmdir ok) w)
-said_body (Rename ok) w f = said 14 (Rename ok) (omega arith) (λ e. omega (arith, e)) f (body_small (Rename ok) w)
-said_body (Link ok) w f = said 15 (Link ok) (omega arith) (λ e. omega (arith, e)) f (body_small (Link ok) w)
-said_body (ReadDir ok) w f = said 16 (ReadDir ok) (omega arith) (λ e. omega (arith, e)) f (body_small (ReadDir ok) w)
-said_body (ReadDirPlus ok) w f = said 17 (ReadDirPlus ok) (omega arith) (λ e. omega (arith, e)) f (body_small (ReadDirPlus ok) w)
-said_body (FsStat ok) w f = said 18 (FsStat ok) (omega arith) (λ e. omega (arith, e)) f (body_small (FsStat ok) w)
-said_body (FsInfo ok) w f = said 19 (FsInfo ok) (omega arith) (λ e. omega (arith, e)) f (body_small (FsInfo ok) w)
-said_body (PathConf ok) w f = said 20 (PathConf ok) (omega arith) (λ e. omega (arith, e)) f (body_small (PathConf ok) w)
-said_body (Commit ok) w f = said 21 (Commit ok) (omega arith) (λ e. omega (arith, e)) f (body_small (Commit ok) w)
+said_body : (b : Body) → IsWithin b → IsSaid (procedure_in b) b
+said_body Null w = said_null
+said_body Nothing w = absurd w
+said_body (GetAttr ok) w = said (GetAttr ok) refl (omega arith) (body_small (GetAttr ok) w)
+said_body (SetAttr ok) w = said (SetAttr ok) refl (omega arith) (body_small (SetAttr ok) w)
+said_body (Lookup ok) w = said (Lookup ok) refl (omega arith) (body_small (Lookup ok) w)
+said_body (Access ok) w = said (Access ok) refl (omega arith) (body_small (Access ok) w)
+said_body (ReadLink ok) w = said (ReadLink ok) refl (omega arith) (body_small (ReadLink ok) w)
+said_body (Read ok) w = said (Read ok) refl (omega arith) (body_small (Read ok) w)
+said_body (Write ok) w = said (Write ok) refl (omega arith) (body_small (Write ok) w)
+said_body (Create ok) w = said (Create ok) refl (omega arith) (body_small (Create ok) w)
+said_body (Mkdir ok) w = said (Mkdir ok) refl (omega arith) (body_small (Mkdir ok) w)
+said_body (Symlink ok) w = said (Symlink ok) refl (omega arith) (body_small (Symlink ok) w)
+said_body (Remove ok) w = said (Remove ok) refl (omega arith) (body_small (Remove ok) w)
+said_body (Rmdir ok) w = said (Rmdir ok) refl (omega arith) (body_small (Rmdir ok) w)
+said_body (Rename ok) w = said (Rename ok) refl (omega arith) (body_small (Rename ok) w)
+said_body (Link ok) w = said (Link ok) refl (omega arith) (body_small (Link ok) w)
+said_body (ReadDir ok) w = said (ReadDir ok) refl (omega arith) (body_small (ReadDir ok) w)
+said_body (ReadDirPlus ok) w = said (ReadDirPlus ok) refl (omega arith) (body_small (ReadDirPlus ok) w)
+said_body (FsStat ok) w = said (FsStat ok) refl (omega arith) (body_small (FsStat ok) w)
+said_body (FsInfo ok) w = said (FsInfo ok) refl (omega arith) (body_small (FsInfo ok) w)
+said_body (PathConf ok) w = said (PathConf ok) refl (omega arith) (body_small (PathConf ok) w)
+said_body (Commit ok) w = said (Commit ok) refl (omega arith) (body_small (Commit ok) w)
 
-spelled_ok : (r : Reply) → is_ok r.status ≡ true → IsBodyOf r.procedure r.body → (ok_body (procedure_in r.body)).Fits r.body → IsSpelled r
+-- ---- of any status
+
+said_ok : (r : Reply) → IsBodyOf r.procedure r.body → IsSaid r.procedure r.body
+said_ok r shape = rw shape.is (said_body r.body shape.within)
+
+spelled_ok : (r : Reply) → is_ok r.status ≡ true → IsBodyOf r.procedure r.body → (ok_body (said_by r.body)).Fits r.body → IsSpelled r
 spelled_ok r ok shape fits =
-    let s : IsSaid r.procedure r.body = rw shape.is (said_body r.body shape.within fits) in
-    record { procedure_is = s.last; fits = rw ok s.fits; short = rw ok s.short }
+    let s = said_ok r shape in
+    record { procedure_is = s.last; nothing = λ e. absurd cc; fits = rw ok (s.fits fits); short = rw ok (omega (arith, s.short)) }
 
--- ---- of another status
+failed_so : (r : Reply) → is_ok r.status ≡ false → IsFailure r.procedure r.body → FailsSo r.procedure r.status
+failed_so r failed shape = fails_so r.procedure r.status (number_has r.procedure shape.status.first shape.status.last) failed
 
-spelled_failed : (r : Reply) → is_ok r.status ≡ false → HasStatus r.procedure → IsSpelled r
+spelled_failed : (r : Reply) → is_ok r.status ≡ false → IsFailure r.procedure r.body → IsSpelled r
 spelled_failed r failed shape =
-    let other : r.status ≡ StatusOk → ⊥ = λ e. absurd cc in
-    let b = (is_bare r.procedure r.status shape.first shape.last other).spelled in
-    let bare_fits : (result_of r.procedure).Fits (Failure r.status (nothing_told r.procedure)) = rw failed at b.fits in
-    record { procedure_is = shape.last; fits = rw failed bare_fits; short = rw failed (rw failed at b.short) }
+    let so = failed_so r failed shape in
+    record { procedure_is = shape.status.last; nothing = λ _. shape.nothing; fits = rw failed so.fits; short = rw failed (omega (arith, so.short)) }
 
-by_status : (r : Reply) (ok : Bool) → is_ok r.status ≡ ok → Says ok r.procedure r.body → (is_ok r.status ≡ true → (ok_body (procedure_in r.body)).Fits r.body) → IsSpelled r
+by_status : (r : Reply) (ok : Bool) → is_ok r.status ≡ ok → Says ok r.procedure r.body → (is_ok r.status ≡ true → (ok_body (said_by r.body)).Fits r.body) → IsSpelled r
 by_status r true e shape fits = spelled_ok r e shape (fits e)
 by_status r false e shape fits = spelled_failed r e shape
 
-pub spelled_by : (r : Reply) → HasShape r → (is_ok r.status ≡ true → (ok_body (procedure_in r.body)).Fits r.body) → IsSpelled r
+pub spelled_by : (r : Reply) → HasShape r → (is_ok r.status ≡ true → (ok_body (said_by r.body)).Fits r.body) → IsSpelled r
 spelled_by r shape fits = by_status r (is_ok r.status) refl shape fits
+
+-- ---- how long it is
+
+short_by : (r : Reply) (ok : Bool) → is_ok r.status ≡ ok → Says ok r.procedure r.body → (result_of r.procedure).size (outcome_of r) ≤ 44000
+short_by r true e shape = let s = said_ok r shape in rw e (omega (arith, s.short))
+short_by r false e shape = let so = failed_so r e shape in rw e (omega (arith, so.short))
+
+pub reply_short : (r : Reply) → HasShape r → (result_of r.procedure).size (outcome_of r) ≤ 44000
+reply_short r shape = short_by r (is_ok r.status) refl shape

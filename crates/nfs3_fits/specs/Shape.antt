@@ -1,10 +1,10 @@
 -- What the types of a reply do not say, and its spelling needs.
-use Rattle.std.specs.Prelude.{◌≡◌, ⊤, ℕ, ◌+◌, ◌^◌, ◌≤◌, Bool, true, false, All, IfSome, List, length, sum_by}
+use Rattle.std.specs.Prelude.{◌≡◌, ⊤, ℕ, ◌+◌, ◌≤◌, Bool, true, false, All, IfSome, List, length, sum_by}
 use Rattle.nfs3_types.specs.declared.body.DirEntry.{DirEntry}
 use Rattle.nfs3_types.specs.declared.body.DirEntryPlus.{DirEntryPlus}
 use Rattle.nfs3_types.specs.declared.body.CreateOk.{CreateOk}
 use Rattle.nfs3_types.specs.declared.body.Body.{Body}
-use Rattle.nfs3_types.specs.declared.body.Body.TheVariants.{Lookup, ReadLink, Read, Create, Mkdir, Symlink, Mknod, ReadDir, ReadDirPlus, Nothing}
+use Rattle.nfs3_types.specs.declared.body.Body.TheVariants.{Lookup, ReadLink, Read, Create, Mkdir, Symlink, ReadDir, ReadDirPlus, Nothing}
 use Rattle.nfs3_types.specs.declared.reply.Reply.{Reply}
 use Rattle.nfs3_types.specs.Replies.{is_ok}
 use Rattle.nfs3_res.specs.Spelled.{procedure_in}
@@ -17,24 +17,23 @@ IsHandle handle = length handle ≤ 64
 abbrev pub HasHandle : CreateOk → Type 0
 HasHandle ok = IfSome ok.object IsHandle
 
--- the entries of READDIR, each counted as 24 bytes and its name, take at most 2 ^ 20 bytes
+-- the entries of READDIR, each counted as 24 bytes and its name, take at most 32,768 bytes
 abbrev pub AreShort : List DirEntry → Type 0
-AreShort entries = sum_by (λ e. 24 + length e.name) entries ≤ 2 ^ 20
+AreShort entries = sum_by (λ e. 24 + length e.name) entries ≤ 32768
 
--- the same of READDIRPLUS, and the handles that are told are handles
+-- those of READDIRPLUS, each counted as 144 bytes and its name, and the handles that are told are handles
 pub record AreShortPlus (entries : List DirEntryPlus) : Type 0 where
-  pub short : sum_by (λ e. 24 + length e.name) entries ≤ 2 ^ 20
+  pub short : sum_by (λ e. 144 + length e.name) entries ≤ 32768
   pub handles : All (λ e. IfSome e.object IsHandle) entries
 
 -- what a body says is within its bounds, and it is that of a procedure
 abbrev pub IsWithin : Body → Type 0
 IsWithin (Lookup ok) = IsHandle ok.object
-IsWithin (ReadLink ok) = length ok.target ≤ 65536
-IsWithin (Read ok) = length ok.«data» ≤ 65536
+IsWithin (ReadLink ok) = length ok.target ≤ 32768
+IsWithin (Read ok) = length ok.«data» ≤ 32768
 IsWithin (Create ok) = HasHandle ok
 IsWithin (Mkdir ok) = HasHandle ok
 IsWithin (Symlink ok) = HasHandle ok
-IsWithin (Mknod ok) = HasHandle ok
 IsWithin (ReadDir ok) = AreShort ok.entries
 IsWithin (ReadDirPlus ok) = AreShortPlus ok.entries
 IsWithin Nothing = ⊥
@@ -50,10 +49,15 @@ pub record HasStatus (procedure : ℕ) : Type 0 where
   pub first : 1 ≤ procedure
   pub last : procedure ≤ 21
 
--- what a result says by whether its status is OK: where it is another one, its body is not looked at
+-- a failure of such a procedure, which says nothing more
+pub record IsFailure (procedure : ℕ) (body : Body) : Type 0 where
+  pub status : HasStatus procedure
+  pub nothing : body ≡ Nothing
+
+-- what a result says by whether its status is OK
 abbrev pub Says : Bool → ℕ → Body → Type 0
 Says true procedure body = IsBodyOf procedure body
-Says false procedure body = HasStatus procedure
+Says false procedure body = IsFailure procedure body
 
 -- the reply's body is that of its procedure and within bounds, or it failed at a procedure that can fail
 abbrev pub HasShape : Reply → Type 0

@@ -1,8 +1,8 @@
 //! Replies have a spelling.
 
 ghost use Rattle.std.specs.Prelude.{◌≡◌, true};
-ghost use Rattle.nfs3_types.specs.Replies.{ok_body, is_ok};
-ghost use Rattle.nfs3_res.specs.Spelled.{procedure_in, IsSpelled};
+ghost use Rattle.nfs3_types.specs.Replies.{ok_body, said_by, is_ok};
+ghost use Rattle.nfs3_res.specs.Spelled.{IsSpelled};
 ghost use Rattle.nfs3_fits.specs.Shape.{IsWithin, HasShape};
 
 use crate::attributes::{fattr_fits, wcc_fits};
@@ -15,7 +15,7 @@ use nfs3_types::{Body, Reply, Status};
 
 fn body_fits(body: &Body)
     requires { IsWithin body.now }
-    ensures { (ok_body (procedure_in body.now)).Fits body.now }
+    ensures { (ok_body (said_by body.now)).Fits body.now }
 {
     match body {
         Body::Null => {}
@@ -29,7 +29,6 @@ fn body_fits(body: &Body)
         Body::Create(ok) => create_fits(ok),
         Body::Mkdir(ok) => create_fits(ok),
         Body::Symlink(ok) => create_fits(ok),
-        Body::Mknod(ok) => create_fits(ok),
         Body::Remove(ok) => wcc_fits(*ok),
         Body::Rmdir(ok) => wcc_fits(*ok),
         Body::Rename(ok) => rename_fits(*ok),
@@ -46,7 +45,7 @@ fn body_fits(body: &Body)
 
 fn said_fits(r: &Reply)
     requires { HasShape r.now }
-    ensures { is_ok r.now.status ≡ true → (ok_body (procedure_in r.now.body)).Fits r.now.body }
+    ensures { is_ok r.now.status ≡ true → (ok_body (said_by r.now.body)).Fits r.now.body }
 {
     match r.status {
         Status::Ok => body_fits(&r.body),
@@ -56,8 +55,8 @@ fn said_fits(r: &Reply)
 
 /// A reply of this shape has a spelling, and one that a record can hold, so that
 /// [`nfs3_res::write_reply`] can be called on it: a reply of status OK, whose body is that of its procedure
-/// and whose texts and lists are within bounds, and each other reply of a procedure but NULL. Nothing is
-/// asked of its numbers, which are within their words by their types.
+/// and whose texts and lists are within bounds, and a reply of another status that says nothing more, of each
+/// procedure but NULL. Nothing is asked of its numbers, which are within their words by their types.
 pub fn spelled(r: &Reply)
     requires { HasShape r.now }
     ensures { IsSpelled r.now }

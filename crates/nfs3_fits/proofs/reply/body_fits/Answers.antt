@@ -46,10 +46,6 @@ pub returns-in-Symlink : goal.returns-in-Symlink
 unfolding ok_body
 returns-in-Symlink c = rw c.in-Symlink.is (record { value = c.in-Symlink.ok; made = refl; fits = c.create_fits-in-Symlink.ensures })
 
-pub returns-in-Mknod : goal.returns-in-Mknod
-unfolding ok_body
-returns-in-Mknod c = rw c.in-Mknod.is (record { value = c.in-Mknod.ok; made = refl; fits = c.create_fits-in-Mknod.ensures })
-
 pub returns-in-Remove : goal.returns-in-Remove
 unfolding ok_body
 returns-in-Remove c = rw c.in-Remove.is (record { value = c.in-Remove.ok; made = refl; fits = c.wcc_fits-in-Remove.ensures })
