@@ -1,22 +1,24 @@
 -- The answer table: the reply to each call on each tree, and the tree after it (RFC 1813, section 3.3).
-use Rattle.std.specs.Prelude.{ℕ, Bool, if◌then◌else◌, List}
-use Rattle.nfs3_types.specs.declared.body.Body.TheVariants.{Null as NullBody}
-use Rattle.nfs3_types.specs.declared.call.CallOver.TheVariants.{Null, GetAttr, SetAttr, Lookup, Access, ReadLink, Read, Write, Create, Mkdir, Symlink, Mknod, Remove, Rmdir, Rename, Link, ReadDir, ReadDirPlus, FsStat, FsInfo, PathConf, Commit}
+use Rattle.std.specs.Prelude.{ℕ, Bool, true, false, not, Ok, Err}
+use Rattle.nfs3_types.specs.declared.body.Body.TheVariants.{Null as NullBody, Nothing}
+use Rattle.nfs3_types.specs.declared.call.CallOver.TheVariants.{Null, GetAttr, SetAttr, Lookup, Access, ReadLink, Read, Write}
+use Rattle.nfs3_types.specs.declared.call.CallOver.TheVariants.{Create, Mkdir, Symlink, Mknod, Remove, Rmdir, Rename, Link}
+use Rattle.nfs3_types.specs.declared.call.CallOver.TheVariants.{ReadDir, ReadDirPlus, FsStat, FsInfo, PathConf, Commit}
 use Rattle.nfs3_types.specs.declared.cred.Cred.{Cred}
 use Rattle.nfs3_types.specs.declared.moment.Moment.{Moment}
 use Rattle.nfs3_types.specs.declared.reply.Reply.{Reply}
-use Rattle.nfs3_types.specs.declared.status.Status.TheVariants.{NotSupp}
-use Rattle.nfs3_types.specs.Calls.{Call}
-use Rattle.fs_rules.specs.Content.{commit, read, write}
+use Rattle.nfs3_types.specs.declared.status.Status.TheVariants.{Ok as StatusOk, NotSupp}
+use Rattle.nfs3_types.specs.Calls.{Call, procedure_of}
+use Rattle.fs_rules.specs.Checks.{Row, told}
 use Rattle.fs_rules.specs.Listing.{read_dir, read_dir_plus}
 use Rattle.fs_rules.specs.Looking.{lookup}
-use Rattle.fs_rules.specs.Making.{create, mkdir, symlink}
-use Rattle.fs_rules.specs.Outcomes.{Outcome, refused, succeeded, told}
-use Rattle.fs_rules.specs.Removing.{remove, rmdir}
+use Rattle.fs_rules.specs.Making.{create, symlink}
+use Rattle.fs_rules.specs.Removing.{remove}
 use Rattle.fs_rules.specs.Renaming.{link, rename}
 use Rattle.fs_rules.specs.Setting.{set_attr}
-use Rattle.fs_rules.specs.Snapshots.{drop_snapshot, is_of_snapshots, take_snapshot}
+use Rattle.fs_rules.specs.Snapshots.{mkdir, rmdir}
 use Rattle.fs_rules.specs.Telling.{access, fs_info, fs_stat, get_attr, path_conf, read_link}
+use Rattle.fs_rules.specs.Transfers.{commit, read, write}
 use Rattle.fs_rules.specs.Tree.{Tree}
 
 -- what of a call counts: who calls, what, at which moment, and the lane of the numbers of new files
@@ -26,37 +28,62 @@ pub record Asked : Type 0 where
   pub now : Moment
   pub lane : ℕ
 
-abbrev pub outcome_of : Tree → Cred → Moment → ℕ → Call → Outcome
-outcome_of t cred now lane Null = succeeded 0 NullBody t
-outcome_of t cred now lane (GetAttr a) = told 1 t (get_attr t a)
-outcome_of t cred now lane (SetAttr a) = set_attr t cred a now
-outcome_of t cred now lane (Lookup a) = told 3 t (lookup t cred a)
-outcome_of t cred now lane (Access a) = told 4 t (access t cred a)
-outcome_of t cred now lane (ReadLink a) = told 5 t (read_link t a)
-outcome_of t cred now lane (Read a) = told 6 t (read t cred a)
-outcome_of t cred now lane (Write a) = write t cred a now
-outcome_of t cred now lane (Create a) = create t cred a now lane
-outcome_of t cred now lane (Mkdir a) =
-    if is_of_snapshots t a.place.directory then take_snapshot t cred a.place.name now else mkdir t cred a now lane
-outcome_of t cred now lane (Symlink a) = symlink t cred a now lane
-outcome_of t cred now lane (Mknod a) = refused 11 NotSupp t
-outcome_of t cred now lane (Remove a) = remove t cred a now
-outcome_of t cred now lane (Rmdir a) =
-    if is_of_snapshots t a.directory then drop_snapshot t cred a.name now else rmdir t cred a now
-outcome_of t cred now lane (Rename a) = rename t cred a now
-outcome_of t cred now lane (Link a) = link t cred a now
-outcome_of t cred now lane (ReadDir a) = told 16 t (read_dir t cred a)
-outcome_of t cred now lane (ReadDirPlus a) = told 17 t (read_dir_plus t cred a)
-outcome_of t cred now lane (FsStat a) = told 18 t (fs_stat t a)
-outcome_of t cred now lane (FsInfo a) = told 19 t (fs_info t a)
-outcome_of t cred now lane (PathConf a) = told 20 t (path_conf t a)
-outcome_of t cred now lane (Commit a) = told 21 t (commit t a)
+-- a call that can change the tree, and one that looks at the tree alone
+abbrev pub is_changing : Call → Bool
+is_changing (SetAttr a) = true
+is_changing (Write a) = true
+is_changing (Create a) = true
+is_changing (Mkdir a) = true
+is_changing (Symlink a) = true
+is_changing (Remove a) = true
+is_changing (Rmdir a) = true
+is_changing (Rename a) = true
+is_changing (Link a) = true
+is_changing call = false
 
-unfoldable pub outcome : Tree → Asked → Outcome
-outcome t a = outcome_of t a.cred a.now a.lane a.call
+abbrev pub only_reads : Call → Bool
+only_reads Null = false
+only_reads (Mknod a) = false
+only_reads call = not (is_changing call)
+
+abbrev pub row_of : Tree → Cred → Moment → ℕ → Call → Row
+row_of t cred now lane Null = Ok (record { body = NullBody; tree = t })
+row_of t cred now lane (GetAttr a) = told t (get_attr t a)
+row_of t cred now lane (SetAttr a) = set_attr t cred a now
+row_of t cred now lane (Lookup a) = told t (lookup t cred a)
+row_of t cred now lane (Access a) = told t (access t cred a)
+row_of t cred now lane (ReadLink a) = told t (read_link t a)
+row_of t cred now lane (Read a) = told t (read t cred a)
+row_of t cred now lane (Write a) = write t cred a now
+row_of t cred now lane (Create a) = create t cred a now lane
+row_of t cred now lane (Mkdir a) = mkdir t cred a now lane
+row_of t cred now lane (Symlink a) = symlink t cred a now lane
+row_of t cred now lane (Mknod a) = Err NotSupp
+row_of t cred now lane (Remove a) = remove t cred a now
+row_of t cred now lane (Rmdir a) = rmdir t cred a now
+row_of t cred now lane (Rename a) = rename t cred a now
+row_of t cred now lane (Link a) = link t cred a now
+row_of t cred now lane (ReadDir a) = told t (read_dir t cred a)
+row_of t cred now lane (ReadDirPlus a) = told t (read_dir_plus t cred a)
+row_of t cred now lane (FsStat a) = told t (fs_stat t a)
+row_of t cred now lane (FsInfo a) = told t (fs_info t a)
+row_of t cred now lane (PathConf a) = told t (path_conf t a)
+row_of t cred now lane (Commit a) = told t (commit t a)
+
+unfoldable pub row : Tree → Asked → Row
+row t a = row_of t a.cred a.now a.lane a.call
+
+-- a refused call tells nothing but its status, and leaves the tree as it was
+abbrev pub reply_by : ℕ → Row → Reply
+reply_by procedure (Ok d) = record { procedure = procedure; status = StatusOk; body = d.body }
+reply_by procedure (Err status) = record { procedure = procedure; status = status; body = Nothing }
+
+abbrev pub tree_by : Tree → Row → Tree
+tree_by t (Ok d) = d.tree
+tree_by t (Err status) = t
 
 abbrev pub answer : Tree → Asked → Reply
-answer t a = (outcome t a).reply
+answer t a = reply_by (procedure_of a.call) (row t a)
 
 abbrev pub after : Tree → Asked → Tree
-after t a = (outcome t a).tree
+after t a = tree_by t (row t a)

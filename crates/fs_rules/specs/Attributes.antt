@@ -1,5 +1,6 @@
 -- The attributes of nodes, and how they are set (RFC 1813, sections 2.6 and 3.3.2).
-use Rattle.std.specs.Prelude.{ℕ, ◌==◌, ◌%◌, nat_lt, Bool, true, false, ◌||◌, ◌&&◌, not, if◌then◌else◌, List, length, Option, Some, None, unwrap_or, is_some}
+use Rattle.std.specs.Prelude.{ℕ, ◌==◌, ◌%◌, nat_lt, Bool, true, false, ◌||◌, ◌&&◌, not, if◌then◌else◌, Option, Some}
+use Rattle.std.specs.Prelude.{None, unwrap_or, is_some, option_map}
 use Rattle.nfs3_types.specs.declared.attributes.Fattr.{Fattr}
 use Rattle.nfs3_types.specs.declared.attributes.Sattr.{Sattr}
 use Rattle.nfs3_types.specs.declared.attributes.SetTime.{SetTime}
@@ -8,14 +9,13 @@ use Rattle.nfs3_types.specs.declared.attributes.Wcc.{Wcc}
 use Rattle.nfs3_types.specs.declared.attributes.WccAttr.{WccAttr}
 use Rattle.nfs3_types.specs.declared.cred.Cred.{Cred}
 use Rattle.nfs3_types.specs.declared.file_type.FileType.{FileType}
-use Rattle.nfs3_types.specs.declared.file_type.FileType.TheVariants.{Reg, Dir, Lnk}
 use Rattle.nfs3_types.specs.declared.moment.Moment.{Moment}
 use Rattle.nfs3_types.specs.declared.status.Status.{Status}
 use Rattle.nfs3_types.specs.declared.status.Status.TheVariants.{Perm, Acces, Inval}
 use Rattle.nfs3_types.specs.FileTypes.{type_number}
 use Rattle.fs_rules.specs.Limits.{most_size}
 use Rattle.fs_rules.specs.Rights.{may, owns, is_in_group}
-use Rattle.fs_rules.specs.Tree.{Node}
+use Rattle.fs_rules.specs.declared.inode.Inode.{Inode}
 
 abbrev pub is_directory : FileType → Bool
 is_directory kind = type_number kind == 2
@@ -26,26 +26,26 @@ is_file kind = type_number kind == 1
 abbrev pub is_link : FileType → Bool
 is_link kind = type_number kind == 5
 
--- a directory has 4,096 bytes
-unfoldable pub size_of : Node → ℕ
-size_of n = if is_directory n.kind then 4096 else length n.content
+-- the size of a file of so many bytes: a directory has 4,096
+unfoldable pub size_of : Inode → ℕ → ℕ
+size_of i length = if is_directory i.kind then 4096 else length
 
--- the attributes of a node as the file of this number in this file system
-unfoldable pub attributes_of : ℕ → ℕ → Node → Fattr
-attributes_of fsid fileid n = record {
-  kind = n.kind;
-  mode = n.mode;
-  nlink = n.nlink;
-  uid = n.uid;
-  gid = n.gid;
-  size = size_of n;
-  used = size_of n;
+-- the attributes of a file of so many bytes, as the file of this number in this file system
+unfoldable pub attributes_of : ℕ → ℕ → Inode → ℕ → Fattr
+attributes_of fsid fileid i length = record {
+  kind = i.kind;
+  mode = i.mode;
+  nlink = i.nlink;
+  uid = i.uid;
+  gid = i.gid;
+  size = size_of i length;
+  used = size_of i length;
   rdev = record { major = 0; minor = 0 };
   fsid = fsid;
   fileid = fileid;
-  atime = n.atime;
-  mtime = n.mtime;
-  ctime = n.ctime;
+  atime = i.atime;
+  mtime = i.mtime;
+  ctime = i.ctime;
 }
 
 -- ---- what a caller may see of a change
@@ -53,59 +53,56 @@ attributes_of fsid fileid n = record {
 abbrev pub wcc_attr : Fattr → WccAttr
 wcc_attr a = record { size = a.size; mtime = a.mtime; ctime = a.ctime }
 
-unfoldable pub wcc_of : Fattr → Fattr → Wcc
-wcc_of before after = record { before = Some (wcc_attr before); after = Some after }
+-- where there are attributes before, and after
+unfoldable pub wcc_of : Option Fattr → Option Fattr → Wcc
+wcc_of before after = record { before = option_map wcc_attr before; after = after }
 
 -- ---- what may be set
 
+-- a value is given, and is so
+abbrev pub given : {A : Type 0} → Option A → (A → Bool) → Bool
+given (Some a) test = test a
+given None test = false
+
 abbrev pub is_client_time : SetTime → Bool
 is_client_time (ClientTime t) = true
-is_client_time DontChange = false
-is_client_time ServerTime = false
+is_client_time how = false
 
 abbrev pub is_server_time : SetTime → Bool
 is_server_time ServerTime = true
-is_server_time DontChange = false
-is_server_time (ClientTime t) = false
+is_server_time how = false
 
--- the given value is another one than this
-abbrev pub is_other : Option ℕ → ℕ → Bool
-is_other (Some given) n = not (given == n)
-is_other None n = false
-
--- the given group is none that the caller may give the file: neither the file's nor one of the caller's
-abbrev pub is_foreign : Cred → ℕ → Option ℕ → Bool
-is_foreign cred gid (Some given) = not ((given == gid) || is_in_group cred given)
-is_foreign cred gid None = false
-
-abbrev pub is_above : Option ℕ → ℕ → Bool
-is_above (Some given) most = nat_lt most given
-is_above None most = false
+-- the size that is given is above the greatest
+abbrev pub is_too_large : Option ℕ → Bool
+is_too_large size = given size (λ size. nat_lt most_size size)
 
 -- the caller is neither user 0 nor the owner, and may not write
 abbrev pub lacks_write : Cred → Fattr → Bool
 lacks_write cred a = not (owns cred a.uid || may cred a.mode a.uid a.gid 2)
 
--- Why the caller may not set these times or this size, the first that fits: the caller's times by another than
--- the owner; the server's without the right to write; a size above the greatest.
-unfoldable pub times_fault : Cred → Fattr → Sattr → Option Status
-times_fault cred a s =
-    if (is_client_time s.atime || is_client_time s.mtime) && not (owns cred a.uid) then Some Perm
-    else (if (is_server_time s.atime || is_server_time s.mtime) && lacks_write cred a then Some Acces
-    else (if is_above s.size most_size then Some Inval
-    else None))
+-- another than user 0 gives the file to another user than himself; or a file that is not his, to anyone
+abbrev pub gives_away : Cred → Fattr → Option ℕ → Bool
+gives_away cred a uid = given uid (λ uid. not (cred.uid == 0) && (not (cred.uid == a.uid) || not (uid == cred.uid)))
+
+-- the same of a group: the owner may give the file to its own group, and to those that he is in
+abbrev pub regroups : Cred → Fattr → Option ℕ → Bool
+regroups cred a gid =
+    given gid (λ gid. not (cred.uid == 0) && (not (cred.uid == a.uid) || not ((gid == a.gid) || is_in_group cred gid)))
 
 -- Why the caller may not set these attributes, the first that fits: a size of what is no file; the mode by
--- another than the owner; the owner, or a group that is not one's own, by another than user 0; the size without
--- the right to write; then the times and the size's bound.
+-- another than the owner; an owner, or a group, that the caller may not give; the size without the right to write;
+-- the caller's times by another than the owner; the server's without the right to write; a size above the greatest.
 unfoldable pub sattr_fault : Cred → Fattr → Sattr → Option Status
 sattr_fault cred a s =
     if is_some s.size && not (is_file a.kind) then Some Inval
     else (if is_some s.mode && not (owns cred a.uid) then Some Perm
-    else (if is_some s.uid && not (cred.uid == 0) && (not (cred.uid == a.uid) || is_other s.uid cred.uid) then Some Perm
-    else (if is_some s.gid && not (cred.uid == 0) && (not (cred.uid == a.uid) || is_foreign cred a.gid s.gid) then Some Perm
+    else (if gives_away cred a s.uid then Some Perm
+    else (if regroups cred a s.gid then Some Perm
     else (if is_some s.size && lacks_write cred a then Some Acces
-    else times_fault cred a s))))
+    else (if (is_client_time s.atime || is_client_time s.mtime) && not (owns cred a.uid) then Some Perm
+    else (if (is_server_time s.atime || is_server_time s.mtime) && lacks_write cred a then Some Acces
+    else (if is_too_large s.size then Some Inval
+    else None)))))))
 
 -- ---- how they are set
 

@@ -1,9 +1,9 @@
 -- Edits of trees, sound or not.
-use Rattle.std.specs.Prelude.{ℕ, ◌+◌, ◌-◌, ◌==◌, nat_lt, not, if◌then◌else◌, List, [], ◌∷◌, ◌++◌, length, take, drop, replicate, slice_set, filter, Option, Some, None, option_map}
+use Rattle.std.specs.Prelude.{ℕ, ◌+◌, ◌-◌, ◌==◌, nat_lt, not, if◌then◌else◌, List, [], ◌∷◌, ◌++◌, length, take, drop}
+use Rattle.std.specs.Prelude.{replicate, slice_set, filter, Option, Some, None, option_map}
 use Rattle.nfs3_types.specs.declared.attributes.Fattr.{Fattr}
 use Rattle.nfs3_types.specs.declared.moment.Moment.{Moment}
 use Rattle.fs_rules.specs.Names.{has_name}
-use Rattle.fs_rules.specs.declared.name.Name.{Name}
 use Rattle.fs_rules.specs.Tree.{Node, Nodes, Tree, next_fileid}
 
 -- ---- of content
@@ -23,48 +23,62 @@ written offset bytes content = resized offset content ++ (bytes ++ drop (offset 
 
 -- ---- of a node
 
-abbrev pub changed : Moment → Node → Node
-changed now n = record n { ctime = now }
+abbrev pub set_ctime : Moment → Node → Node
+set_ctime now n = record n { inode = record n.inode { ctime = now } }
 
 -- the content or the names are others now
-abbrev pub touched : Moment → Node → Node
-touched now n = record n { mtime = now; ctime = now }
+abbrev pub touch : Moment → Node → Node
+touch now n = record n { inode = record n.inode { mtime = now; ctime = now } }
 
-abbrev pub linked : Node → Node
-linked n = record n { nlink = n.nlink + 1 }
+abbrev pub add_link : Node → Node
+add_link n = record n { inode = record n.inode { nlink = n.inode.nlink + 1 } }
 
-abbrev pub unlinked : Node → Node
-unlinked n = record n { nlink = n.nlink - 1 }
+abbrev pub drop_link : Node → Node
+drop_link n = record n { inode = record n.inode { nlink = n.inode.nlink - 1 } }
 
--- how often a call made it smaller, once it has this size
+abbrev pub set_parent : ℕ → Node → Node
+set_parent parent n = record n { inode = record n.inode { parent = parent } }
+
+-- a size below the content's length is one cut more
 abbrev pub cuts_at : ℕ → Node → ℕ
-cuts_at size n = if nat_lt size (length n.content) then n.cuts + 1 else n.cuts
+cuts_at size n = if nat_lt size (length n.content) then n.inode.cuts + 1 else n.inode.cuts
 
-unfoldable pub sized : ℕ → Node → Node
-sized size n = record n { content = resized size n.content; cuts = cuts_at size n }
+unfoldable pub set_size : ℕ → Node → Node
+set_size size n = record n { inode = record n.inode { cuts = cuts_at size n }; content = resized size n.content }
 
--- with what of these attributes is set
-abbrev pub described : Fattr → Node → Node
-described a n = record n { mode = a.mode; uid = a.uid; gid = a.gid; atime = a.atime; mtime = a.mtime; ctime = a.ctime }
+-- the size, where one is given
+abbrev pub set_size_if : Option ℕ → Node → Node
+set_size_if (Some size) n = set_size size n
+set_size_if None n = n
 
--- with a further name, which gets the directory's next cookie
-abbrev pub naming : List ℕ → ℕ → Node → Node
-naming name fileid n = record n {
-  names = n.names ++ record { cookie = n.next_cookie; name = name; fileid = fileid } ∷ [];
-  next_cookie = n.next_cookie + 1;
+-- what of these attributes can be set
+abbrev pub set_attributes : Fattr → Node → Node
+set_attributes a n = record n {
+  inode = record n.inode { mode = a.mode; uid = a.uid; gid = a.gid; atime = a.atime; mtime = a.mtime; ctime = a.ctime };
 }
 
-abbrev pub without_name : List ℕ → Node → Node
-without_name name n = record n { names = filter (λ e. not (has_name name e)) n.names }
+-- no byte changes nothing
+abbrev pub write_at : ℕ → List ℕ → Moment → Node → Node
+write_at offset bytes now n =
+    if length bytes == 0 then n else touch now (record n { content = written offset bytes n.content })
+
+-- a further name gets the directory's next cookie
+abbrev pub add_name : List ℕ → ℕ → Node → Node
+add_name name fileid n = record n {
+  inode = record n.inode { next_cookie = n.inode.next_cookie + 1 };
+  names = n.names ++ record { cookie = n.inode.next_cookie; name = name; fileid = fileid } ∷ [];
+}
+
+abbrev pub drop_name : List ℕ → Node → Node
+drop_name name n = record n { names = filter (λ e. not (has_name name e)) n.names }
 
 -- ---- of the live tree
 
 unfoldable pub with_node : ℕ → Option Node → Nodes → Nodes
 with_node fileid node nodes = λ id. if id == fileid then node else nodes id
 
--- the tree where this is done to one node
-unfoldable pub at_node : ℕ → (Node → Node) → Tree → Tree
-at_node fileid edit t = record t { nodes = with_node fileid (option_map edit (t.nodes fileid)) t.nodes }
+unfoldable pub edit_node : ℕ → (Node → Node) → Tree → Tree
+edit_node fileid edit t = record t { nodes = with_node fileid (option_map edit (t.nodes fileid)) t.nodes }
 
 unfoldable pub add_node : ℕ → Node → Tree → Tree
 add_node fileid n t = record t { nodes = with_node fileid (Some n) t.nodes }
@@ -72,6 +86,6 @@ add_node fileid n t = record t { nodes = with_node fileid (Some n) t.nodes }
 unfoldable pub drop_node : ℕ → Tree → Tree
 drop_node fileid t = record t { nodes = with_node fileid None t.nodes }
 
--- the lane gave one more number
-unfoldable pub next_in_lane : ℕ → Tree → Tree
-next_in_lane lane t = record t { next_fileids = slice_set t.next_fileids lane (next_fileid t lane + 16) }
+-- the lane gives its next number
+unfoldable pub give_number : ℕ → Tree → Tree
+give_number lane t = record t { next_fileids = slice_set t.next_fileids lane (next_fileid t lane + 16) }

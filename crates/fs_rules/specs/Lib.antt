@@ -6,14 +6,14 @@ pub mod Attributes
 pub mod Places
 pub mod Checks
 pub mod Edits
-pub mod Outcomes
 pub mod Telling
 pub mod Looking
 pub mod Setting
-pub mod Content
+pub mod Transfers
 pub mod Making
 pub mod Removing
 pub mod Renaming
 pub mod Listing
 pub mod Snapshots
 pub mod Answers
+pub mod Sound

@@ -1,9 +1,20 @@
 -- The service's limits (RFC 1813, section 3.3.19 and 3.3.20, tells some of them to clients).
 use Rattle.std.specs.Prelude.{ℕ, ◌^◌, ◌-◌}
 
--- the most bytes of one READ or WRITE (rtmax, wtmax), and of the result of a READDIR or READDIRPLUS
+-- the most bytes of one READ or WRITE
 unfoldable pub most_transfer : ℕ
 most_transfer = 32768
+
+-- the most bytes of the result of a READDIR or READDIRPLUS
+unfoldable pub most_listing : ℕ
+most_listing = 32768
+
+-- what FSINFO tells of READ and WRITE (rtmax, rtpref, wtmax, wtpref), and of READDIR (dtpref)
+unfoldable pub told_transfer : ℕ
+told_transfer = 32768
+
+unfoldable pub told_listing : ℕ
+told_listing = 32768
 
 -- the greatest size of a file in bytes (maxfilesize)
 unfoldable pub most_size : ℕ

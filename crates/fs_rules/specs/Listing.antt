@@ -1,5 +1,6 @@
 -- READDIR and READDIRPLUS (RFC 1813, sections 3.3.16 and 3.3.17).
-use Rattle.std.specs.Prelude.{ℕ, ◌+◌, ◌-◌, ◌*◌, ◌/◌, ◌==◌, nat_le, nat_lt, Bool, ◌||◌, ◌&&◌, not, min, if◌then◌else◌, List, [], ◌∷◌, length, map, filter, replicate, bytes_eq, codes, Some, Ok}
+use Rattle.std.specs.Prelude.{ℕ, ◌+◌, ◌-◌, ◌*◌, ◌/◌, ◌==◌, nat_le, nat_lt, Bool, ◌||◌, ◌&&◌, min, if◌then◌else◌, List, []}
+use Rattle.std.specs.Prelude.{◌∷◌, length, map, filter, replicate, bytes_eq, codes, Some, Ok}
 use Rattle.nfs3_types.specs.declared.args.ReadDirArgs.{ReadDirArgs}
 use Rattle.nfs3_types.specs.declared.args.ReadDirPlusArgs.{ReadDirPlusArgs}
 use Rattle.nfs3_types.specs.declared.body.Body.{Body}
@@ -9,12 +10,11 @@ use Rattle.nfs3_types.specs.declared.body.DirEntryPlus.{DirEntryPlus}
 use Rattle.nfs3_types.specs.declared.cred.Cred.{Cred}
 use Rattle.nfs3_types.specs.declared.status.Status.TheVariants.{Acces, BadCookie, TooSmall}
 use Rattle.fs_rules.specs.declared.place.Place.{Place}
-use Rattle.fs_rules.specs.Checks.{Check, ◌>>=◌, as_directory, found, unless}
-use Rattle.fs_rules.specs.Limits.{most_transfer}
-use Rattle.fs_rules.specs.Outcomes.{shown}
-use Rattle.fs_rules.specs.Places.{Object, above, attributes, beside, fileid_at, handle_at}
+use Rattle.fs_rules.specs.Checks.{Check, ◌>>=◌, find_object, need, need_directory, refuse_if}
+use Rattle.fs_rules.specs.Limits.{most_listing}
+use Rattle.fs_rules.specs.Places.{Object, above, attributes, beside, fileid_at, handle_at, names_at, shown}
 use Rattle.fs_rules.specs.Rights.{may_read}
-use Rattle.fs_rules.specs.declared.name.Name.{Name}
+use Rattle.fs_rules.specs.declared.name_entry.NameEntry.{NameEntry}
 use Rattle.fs_rules.specs.Tree.{Tree}
 
 -- a name that is listed, and where it leads
@@ -23,15 +23,15 @@ pub record Listed : Type 0 where
   pub name : List ℕ
   pub place : Place
 
-abbrev pub listed : Place → Name → Listed
+abbrev pub listed : Place → NameEntry → Listed
 listed directory e = record { cookie = e.cookie; name = e.name; place = beside directory e }
 
 -- all that a directory lists, by rising cookie: itself, the directory above it, and its names
-unfoldable pub listing : Object → List Listed
-listing o =
+unfoldable pub listing : Tree → Object → List Listed
+listing t o =
     record { cookie = 1; name = codes "."; place = o.place }
-    ∷ record { cookie = 2; name = codes ".."; place = above o.place o.node }
-    ∷ map (listed o.place) o.node.names
+    ∷ record { cookie = 2; name = codes ".."; place = above o.place o.inode }
+    ∷ map (listed o.place) (names_at t o.place)
 
 -- what is listed behind a cookie
 abbrev pub behind : ℕ → List Listed → List Listed
@@ -63,7 +63,7 @@ fitting size room (e ∷ entries) = if nat_le (size e) room then e ∷ fitting s
 
 -- the most bytes of a result
 abbrev pub limit : ℕ → ℕ
-limit count = min count most_transfer
+limit count = min count most_listing
 
 abbrev pub is_zeros : List ℕ → Bool
 is_zeros verifier = bytes_eq verifier (replicate 8 0)
@@ -77,20 +77,23 @@ pub record Page : Type 0 where
   pub told : List Listed
   pub eof : Bool
 
--- the entries that are told: those behind the cookie, as many as fit
-unfoldable pub page : Tree → Cred → (Listed → ℕ) → List ℕ → ℕ → List ℕ → ℕ → Check Page
-page t cred size handle cookie verifier count = do
-  o ← found t handle
-  _ ← as_directory o
-  _ ← unless (not (may_read cred o.node)) Acces
+-- of what is left of a directory's listing, as much as fits
+unfoldable pub page_of : Object → ℕ → List Listed → List Listed → Check Page
+page_of directory count left told = do
+  _ ← refuse_if (is_too_small count left told) TooSmall
+  Ok (record { directory = directory; told = told; eof = length told == length left })
+
+unfoldable pub page_behind : Object → (Listed → ℕ) → ℕ → List Listed → Check Page
+page_behind directory size count left = page_of directory count left (fitting size (limit count - bare_size) left)
+
+unfoldable pub page : Tree → Cred → (Listed → ℕ) → ReadDirArgs (List ℕ) → Check Page
+page t cred size a = do
+  o ← find_object t a.directory
+  _ ← need_directory o
+  _ ← need (may_read cred o.inode) Acces
   -- the verifier is always zeros
-  _ ← unless (not (cookie == 0) && not (is_zeros verifier)) BadCookie
-  _ ← unless (is_too_small count (behind cookie (listing o)) (fitting size (limit count - bare_size) (behind cookie (listing o)))) TooSmall
-  Ok (record {
-    directory = o;
-    told = fitting size (limit count - bare_size) (behind cookie (listing o));
-    eof = length (fitting size (limit count - bare_size) (behind cookie (listing o))) == length (behind cookie (listing o));
-  })
+  _ ← need ((a.cookie == 0) || is_zeros a.verifier) BadCookie
+  page_behind o size a.count (behind a.cookie (listing t o))
 
 -- ---- the two procedures
 
@@ -99,7 +102,7 @@ entry e = record { fileid = fileid_at e.place; name = e.name; cookie = e.cookie 
 
 unfoldable pub read_dir : Tree → Cred → ReadDirArgs (List ℕ) → Check Body
 read_dir t cred a = do
-  p ← page t cred entry_size a.directory a.cookie a.verifier a.count
+  p ← page t cred entry_size a
   Ok (ReadDir (record {
     attributes = Some (attributes t p.directory);
     verifier = replicate 8 0;
@@ -117,9 +120,12 @@ entry_plus t e = record {
 }
 
 -- the smaller count, of what READDIR would tell, is not looked at
+abbrev pub count_all : ReadDirPlusArgs (List ℕ) → ReadDirArgs (List ℕ)
+count_all a = record { directory = a.directory; cookie = a.cookie; verifier = a.verifier; count = a.maxcount }
+
 unfoldable pub read_dir_plus : Tree → Cred → ReadDirPlusArgs (List ℕ) → Check Body
 read_dir_plus t cred a = do
-  p ← page t cred entry_plus_size a.directory a.cookie a.verifier a.maxcount
+  p ← page t cred entry_plus_size (count_all a)
   Ok (ReadDirPlus (record {
     attributes = Some (attributes t p.directory);
     verifier = replicate 8 0;

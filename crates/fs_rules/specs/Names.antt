@@ -1,10 +1,10 @@
 -- Names in directories (RFC 1813, section 3.2: the server says which names it takes).
-use Rattle.std.specs.Prelude.{ℕ, ◌==◌, nat_lt, Bool, false, ◌||◌, if◌then◌else◌, List, [], ◌∷◌, length, codes, bytes_eq, find, Option, Some, None}
+use Rattle.std.specs.Prelude.{ℕ, ◌==◌, nat_lt, Bool, false, ◌||◌, if◌then◌else◌, List, [], ◌∷◌, length, codes, bytes_eq, find}
+use Rattle.std.specs.Prelude.{Option, Some, None}
 use Rattle.nfs3_types.specs.declared.status.Status.{Status}
 use Rattle.nfs3_types.specs.declared.status.Status.TheVariants.{Inval, NameTooLong}
 use Rattle.fs_rules.specs.Limits.{longest_name, longest_target}
-use Rattle.fs_rules.specs.declared.name.Name.{Name}
-use Rattle.fs_rules.specs.Tree.{Node}
+use Rattle.fs_rules.specs.declared.name_entry.NameEntry.{NameEntry}
 
 abbrev pub has_byte : ℕ → List ℕ → Bool
 has_byte byte [] = false
@@ -45,9 +45,9 @@ names_snapshots name = bytes_eq name (codes ".snapshot")
 
 -- ---- entries
 
-unfoldable pub has_name : List ℕ → Name → Bool
+unfoldable pub has_name : List ℕ → NameEntry → Bool
 has_name name e = bytes_eq e.name name
 
--- the entry of this name in a directory
-unfoldable pub named : List ℕ → Node → Option Name
-named name directory = find (has_name name) directory.names
+-- the entry of this name among these
+unfoldable pub named : List ℕ → List NameEntry → Option NameEntry
+named name names = find (has_name name) names

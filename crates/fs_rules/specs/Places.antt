@@ -1,15 +1,17 @@
 -- Where handles lead, and where the names of a directory lead.
-use Rattle.std.specs.Prelude.{ℕ, ◌+◌, ◌-◌, ◌^◌, ◌%◌, ◌==◌, Bool, true, false, ◌&&◌, if◌then◌else◌, List, [], map, length, find, Option, Some, None, option_and_then}
+use Rattle.std.specs.Prelude.{ℕ, ◌+◌, ◌-◌, ◌^◌, ◌==◌, Bool, false, ◌&&◌, if◌then◌else◌, List, [], map, length, find}
+use Rattle.std.specs.Prelude.{Option, Some, None, option_map}
 use Rattle.nfs3_types.specs.declared.attributes.Fattr.{Fattr}
-use Rattle.nfs3_types.specs.declared.file_type.FileType.TheVariants.{Dir}
+use Rattle.nfs3_types.specs.declared.attributes.Wcc.{Wcc}
 use Rattle.nfs3_types.specs.declared.handle.Handle.{Handle}
 use Rattle.nfs3_types.specs.Handles.{handle}
+use Rattle.fs_rules.specs.declared.inode.Inode.{Inode}
+use Rattle.fs_rules.specs.declared.name_entry.NameEntry.{NameEntry}
 use Rattle.fs_rules.specs.declared.place.Place.{Place}
 use Rattle.fs_rules.specs.declared.place.Place.TheVariants.{Live, SnapshotDirectory, Kept}
-use Rattle.fs_rules.specs.Attributes.{attributes_of}
+use Rattle.fs_rules.specs.Attributes.{attributes_of, wcc_of}
 use Rattle.fs_rules.specs.Names.{is_dot, is_dot_dot, names_snapshots, named}
-use Rattle.fs_rules.specs.declared.name.Name.{Name}
-use Rattle.fs_rules.specs.Tree.{Node, Nodes, Snapshot, Tree}
+use Rattle.fs_rules.specs.Tree.{Node, Snapshot, Tree, root_inode}
 
 -- ---- handles: the file system, the snapshot and the file; snapshot 0 is the live tree, and the greatest
 -- ---- number, with file 2, stands for the directory `.snapshot`
@@ -39,27 +41,16 @@ handle_at t place = handle.spelling (record { fsid = t.fsid; snapshot = snapshot
 
 -- ---- what stands there
 
--- a snapshot as an entry of `.snapshot`: it leads to the snapshot's root
-abbrev pub snapshot_entry : Snapshot → Name
-snapshot_entry s = record { cookie = s.number + 2; name = s.name; fileid = 1 }
+-- a snapshot as an entry of `.snapshot`, which says its number
+abbrev pub snapshot_entry : Snapshot → NameEntry
+snapshot_entry s = record { cookie = s.number + 2; name = s.name; fileid = s.number }
 
--- the directory `.snapshot`: mode 0755, of owner and group 0, in the live root
+-- the directory `.snapshot`
 unfoldable pub snapshot_directory : Tree → Node
 snapshot_directory t = record {
-  kind = Dir;
-  mode = 493;
-  nlink = 2 + length t.snapshots;
-  uid = 0;
-  gid = 0;
-  atime = t.snapshot_times.atime;
-  mtime = t.snapshot_times.mtime;
-  ctime = t.snapshot_times.ctime;
+  inode = root_inode (2 + length t.snapshots) (t.epoch + 2) t.snapshot_times;
   content = [];
   names = map snapshot_entry t.snapshots;
-  next_cookie = t.epoch + 2;
-  parent = 1;
-  verifier = None;
-  cuts = 0;
 }
 
 abbrev pub has_number : ℕ → Snapshot → Bool
@@ -77,80 +68,88 @@ node_at t (Live fileid) = t.nodes fileid
 node_at t SnapshotDirectory = Some (snapshot_directory t)
 node_at t (Kept number fileid) = node_in (snapshot_numbered t number) fileid
 
--- what was found, and where
+abbrev pub content_of : Option Node → List ℕ
+content_of (Some n) = n.content
+content_of None = []
+
+abbrev pub names_of : Option Node → List NameEntry
+names_of (Some n) = n.names
+names_of None = []
+
+-- the content there, and the names
+abbrev pub content_at : Tree → Place → List ℕ
+content_at t place = content_of (node_at t place)
+
+abbrev pub names_at : Tree → Place → List NameEntry
+names_at t place = names_of (node_at t place)
+
+-- what was found: where, its inode, and the length of its content
 pub record Object : Type 0 where
   pub place : Place
-  pub node : Node
+  pub inode : Inode
+  pub size : ℕ
 
-abbrev pub object_by : Place → Option Node → Option Object
-object_by place (Some n) = Some (record { place = place; node = n })
-object_by place None = None
+abbrev pub object_by : Place → Node → Object
+object_by place n = record { place = place; inode = n.inode; size = length n.content }
 
-abbrev pub object_at : Tree → Place → Option Object
-object_at t place = object_by place (node_at t place)
-
--- a node of the live tree, and its number
-pub record LiveNode : Type 0 where
-  pub fileid : ℕ
-  pub node : Node
-
-abbrev pub live_by : ℕ → Option Node → Option LiveNode
-live_by fileid (Some n) = Some (record { fileid = fileid; node = n })
-live_by fileid None = None
-
-abbrev pub live_node : Tree → ℕ → Option LiveNode
-live_node t fileid = live_by fileid (t.nodes fileid)
+unfoldable pub object_at : Tree → Place → Option Object
+object_at t place = option_map (object_by place) (node_at t place)
 
 -- the object of a handle of this tree
 unfoldable pub object_of : Tree → Handle → Option Object
 object_of t h = if h.fsid == t.fsid then object_at t (place_of h) else None
 
--- ---- attributes: those of snapshot n's files are of the file system n further on, as a hyper
+-- ---- what is told of it: attributes; those of snapshot n's files are of the file system n further on
 
 abbrev pub fsid_at : Tree → Place → ℕ
 fsid_at t (Live fileid) = t.fsid
 fsid_at t SnapshotDirectory = t.fsid
-fsid_at t (Kept number fileid) = (t.fsid + number) % 2 ^ 64
+fsid_at t (Kept number fileid) = t.fsid + number
 
-unfoldable pub attributes_at : Tree → Place → Node → Fattr
-attributes_at t place n = attributes_of (fsid_at t place) (fileid_at place) n
+unfoldable pub attributes : Tree → Object → Fattr
+attributes t o = attributes_of (fsid_at t o.place) (fileid_at o.place) o.inode o.size
 
-abbrev pub attributes : Tree → Object → Fattr
-attributes t o = attributes_at t o.place o.node
+-- the attributes there
+unfoldable pub shown : Tree → Place → Option Fattr
+shown t place = option_map (attributes t) (object_at t place)
 
-abbrev pub live_attributes : Tree → LiveNode → Fattr
-live_attributes t l = attributes_at t (Live l.fileid) l.node
+-- the attributes there before and after
+abbrev pub change : Tree → Tree → Place → Wcc
+change before after place = wcc_of (shown before place) (shown after place)
 
 -- ---- where names lead
 
 -- the directory above: the root is above itself, `.snapshot` above a snapshot's root, and the root above it
-abbrev pub above : Place → Node → Place
-above (Live fileid) n = Live n.parent
-above SnapshotDirectory n = Live 1
-above (Kept number fileid) n = if fileid == 1 then SnapshotDirectory else Kept number n.parent
+abbrev pub above : Place → Inode → Place
+above (Live fileid) i = Live i.parent
+above SnapshotDirectory i = Live 1
+above (Kept number fileid) i = if fileid == 1 then SnapshotDirectory else Kept number i.parent
 
--- where an entry of a directory leads; the entries of `.snapshot` have the cookies number + 2
-abbrev pub beside : Place → Name → Place
+-- where an entry of a directory leads: one of `.snapshot` to the snapshot's root
+abbrev pub beside : Place → NameEntry → Place
 beside (Live directory) e = Live e.fileid
-beside SnapshotDirectory e = Kept (e.cookie - 2) e.fileid
+beside SnapshotDirectory e = Kept e.fileid 1
 beside (Kept number directory) e = Kept number e.fileid
 
 -- the live root, where `.snapshot` is a name that no entry has
 abbrev pub is_live_root : Place → Bool
 is_live_root (Live fileid) = fileid == 1
-is_live_root SnapshotDirectory = false
-is_live_root (Kept number fileid) = false
+is_live_root place = false
 
 abbrev pub is_snapshots_name : Place → List ℕ → Bool
 is_snapshots_name place name = is_live_root place && names_snapshots name
 
-abbrev pub led_by : Place → Option Name → Option Place
-led_by place (Some e) = Some (beside place e)
-led_by place None = None
+-- the entry of a name in the directory there
+unfoldable pub entry_at : Tree → Place → List ℕ → Option NameEntry
+entry_at t directory name = named name (names_at t directory)
 
-unfoldable pub looked_up : Object → List ℕ → Option Place
-looked_up directory name =
+unfoldable pub place_named : Tree → Object → List ℕ → Option Place
+place_named t directory name =
     if is_dot name then Some directory.place
-    else (if is_dot_dot name then Some (above directory.place directory.node)
+    else (if is_dot_dot name then Some (above directory.place directory.inode)
     else (if is_snapshots_name directory.place name then Some SnapshotDirectory
-    else led_by directory.place (named name directory.node)))
+    else option_map (beside directory.place) (entry_at t directory.place name)))
+
+-- What stands where a name leads. In a sound tree that is never nothing; where it is, the name is as good as not there.
+abbrev pub leads_to : Tree → Place → Option Object
+leads_to t place = object_at t place

@@ -1,70 +1,72 @@
 -- RENAME and LINK (RFC 1813, sections 3.3.14 and 3.3.15).
-use Rattle.std.specs.Prelude.{ℕ, zero, suc, ◌+◌, ◌==◌, nat_le, nat_lt, Bool, true, false, ◌||◌, ◌&&◌, not, if◌then◌else◌, List, [], ◌∷◌, length, find, is_some, is_none, Option, Some, None, option_map, Ok}
+use Rattle.std.specs.Prelude.{ℕ, zero, suc, ◌+◌, ◌==◌, nat_le, Bool, true, false, ◌||◌, ◌&&◌, not, if◌then◌else◌, List}
+use Rattle.std.specs.Prelude.{is_none, Option, Some, None, option_map, option_and_then, Ok, Err}
 use Rattle.nfs3_types.specs.declared.args.LinkArgs.{LinkArgs}
 use Rattle.nfs3_types.specs.declared.args.RenameArgs.{RenameArgs}
-use Rattle.nfs3_types.specs.declared.body.Body.{Body}
 use Rattle.nfs3_types.specs.declared.body.Body.TheVariants.{Link, Rename}
 use Rattle.nfs3_types.specs.declared.cred.Cred.{Cred}
 use Rattle.nfs3_types.specs.declared.moment.Moment.{Moment}
 use Rattle.nfs3_types.specs.declared.status.Status.TheVariants.{Acces, Exist, Inval, MLink, NameTooLong, NoEnt, NoSpc, Xdev}
+use Rattle.fs_rules.specs.declared.name_entry.NameEntry.{NameEntry}
 use Rattle.fs_rules.specs.declared.place.Place.TheVariants.{Live}
+use Rattle.fs_rules.specs.declared.plans.Climb.{Climb}
+use Rattle.fs_rules.specs.declared.plans.Climb.TheVariants.{TooDeep, Found, Root}
 use Rattle.fs_rules.specs.declared.plans.LinkPlan.{LinkPlan}
-use Rattle.fs_rules.specs.declared.plans.Move.{Move}
 use Rattle.fs_rules.specs.declared.plans.RenamePlan.{RenamePlan}
-use Rattle.fs_rules.specs.declared.plans.RenamePlan.TheVariants.{Same, Moved}
 use Rattle.fs_rules.specs.declared.plans.Replaced.{Replaced}
-use Rattle.fs_rules.specs.Attributes.{is_directory}
-use Rattle.fs_rules.specs.Checks.{Check, ◌>>=◌, as_directory, found, good_name, live, live_or, some_or, unless}
-use Rattle.fs_rules.specs.Edits.{at_node, changed, linked, naming, touched, unlinked, without_name}
+use Rattle.fs_rules.specs.Attributes.{given, is_directory}
+use Rattle.fs_rules.specs.Checks.{Check, Row, ◌>>=◌, done, find_object, is_live, need, need_directory, need_good_name}
+use Rattle.fs_rules.specs.Checks.{need_live, need_search, refuse_if, some_or}
+use Rattle.fs_rules.specs.Edits.{add_link, add_name, drop_link, drop_name, edit_node, set_ctime, set_parent, touch}
 use Rattle.fs_rules.specs.Limits.{deepest, most_links}
-use Rattle.fs_rules.specs.Making.{free_name, lacks_cookies}
-use Rattle.fs_rules.specs.Names.{is_dots, named}
-use Rattle.fs_rules.specs.Outcomes.{Outcome, change, done, shown}
-use Rattle.fs_rules.specs.Places.{LiveNode, is_snapshots_name, live_node}
-use Rattle.fs_rules.specs.Removing.{directory_removed, lacks_change, removed}
-use Rattle.fs_rules.specs.Rights.{may_search}
-use Rattle.fs_rules.specs.declared.name.Name.{Name}
+use Rattle.fs_rules.specs.Making.{lacks_cookies, need_free_name}
+use Rattle.fs_rules.specs.Names.{is_dots}
+use Rattle.fs_rules.specs.Places.{Object, change, entry_at, fileid_at, is_snapshots_name, leads_to, shown}
+use Rattle.fs_rules.specs.Removing.{drop_directory, has_names, may_alter, remove_file}
 use Rattle.fs_rules.specs.Tree.{Node, Nodes, Tree}
 
--- ---- where a directory is
+-- ---- the way from a directory up to the root
 
 abbrev pub parent_of : Option Node → ℕ → ℕ
-parent_of (Some n) fileid = n.parent
+parent_of (Some n) fileid = n.inode.parent
 parent_of None fileid = fileid
 
--- a directory and those above it, up to the root, at most so many
-unfoldable pub line : Nodes → ℕ → ℕ → List ℕ
-line nodes zero fileid = []
-line nodes (suc most) fileid =
-    fileid ∷ (if fileid == 1 then [] else line nodes most (parent_of (nodes fileid) fileid))
+-- the way leads through the directory that was sought, if this is it
+abbrev pub through : Bool → Climb → Climb
+through true Root = Found
+through here way = way
 
-abbrev pub is_in : ℕ → List ℕ → Bool
-is_in fileid line = is_some (find (λ above. above == fileid) line)
+-- the way up from a directory, which leads through so many at most, the root with them, and whether it leads
+-- through the one that is sought
+unfoldable pub climb : Nodes → ℕ → ℕ → ℕ → Climb
+climb nodes sought zero fileid = TooDeep
+climb nodes sought (suc most) fileid =
+    through (fileid == sought) (if fileid == 1 then Root else climb nodes sought most (parent_of (nodes fileid) fileid))
 
--- the root and the levels below it that a directory may be moved into
-abbrev pub line_of : Tree → ℕ → List ℕ
-line_of t fileid = line t.nodes (deepest + 1) fileid
+-- a directory is not moved too deep, and not into itself or below itself
+abbrev pub allow_move : Climb → Check (Unit {0})
+allow_move TooDeep = Err NameTooLong
+allow_move Found = Err Inval
+allow_move Root = Ok tt
 
 -- ---- RENAME
 
 -- a node that gets another name: its directory, the directory of the new name, and what has that name
 pub record Renaming : Type 0 where
-  pub from : LiveNode
-  pub to : LiveNode
-  pub source : LiveNode
-  pub target : Option LiveNode
+  pub from : Object
+  pub to : Object
+  pub source : Object
+  pub target : Option Object
 
-abbrev pub target_of : Tree → Option Name → Option LiveNode
-target_of t (Some e) = live_node t e.fileid
-target_of t None = None
+abbrev pub target_at : Tree → Option NameEntry → Option Object
+target_at t e = option_and_then (λ e. leads_to t (Live e.fileid)) e
 
-abbrev pub is_node : ℕ → Option LiveNode → Bool
-is_node fileid (Some l) = l.fileid == fileid
-is_node fileid None = false
+abbrev pub is_same_node : Renaming → Bool
+is_same_node r = given r.target (λ o. fileid_at o.place == fileid_at r.source.place)
 
 -- a directory gets another parent
 abbrev pub reparents : Renaming → Bool
-reparents r = is_directory r.source.node.kind && not (r.from.fileid == r.to.fileid)
+reparents r = is_directory r.source.inode.kind && not (fileid_at r.from.place == fileid_at r.to.place)
 
 abbrev pub differs : Bool → Bool → Bool
 differs true b = not b
@@ -72,138 +74,103 @@ differs false b = b
 
 -- what has the new name cannot go for the source: one of the two is a directory and the other is not, or it is
 -- a directory that is not empty
-abbrev pub is_in_the_way : Node → Option LiveNode → Bool
-is_in_the_way source (Some l) =
-    differs (is_directory l.node.kind) (is_directory source.kind) || (is_directory l.node.kind && nat_lt 0 (length l.node.names))
-is_in_the_way source None = false
+abbrev pub is_in_the_way : Tree → Object → Object → Bool
+is_in_the_way t source o =
+    differs (is_directory o.inode.kind) (is_directory source.inode.kind) || (is_directory o.inode.kind && has_names t o.place)
 
--- the directories of both names
-pub record Directories : Type 0 where
-  pub from : LiveNode
-  pub to : LiveNode
+-- what is found: first the directories of both names, then what has them
+unfoldable pub find_renaming : Tree → Cred → RenameArgs (List ℕ) → Check Renaming
+find_renaming t cred a = do
+  from ← find_object t a.from.directory
+  to ← find_object t a.to.directory
+  _ ← need_directory from
+  _ ← need_directory to
+  _ ← need_live from
+  _ ← need_live to
+  _ ← need_good_name a.from.name
+  _ ← need_good_name a.to.name
+  _ ← refuse_if (is_dots a.from.name || is_dots a.to.name) Inval
+  _ ← refuse_if (is_snapshots_name from.place a.from.name || is_snapshots_name to.place a.to.name) Acces
+  _ ← need (may_alter cred from.inode) Acces
+  _ ← need (may_alter cred to.inode) Acces
+  e ← some_or (entry_at t from.place a.from.name) NoEnt
+  source ← some_or (leads_to t (Live e.fileid)) NoEnt
+  Ok (record { from = from; to = to; source = source; target = target_at t (entry_at t to.place a.to.name) })
 
-unfoldable pub live_directories : Tree → RenameArgs (List ℕ) → Check Directories
-live_directories t a = do
-  first ← found t a.from.directory
-  second ← found t a.to.directory
-  _ ← as_directory first
-  _ ← as_directory second
-  from ← live first
-  to ← live second
-  _ ← good_name a.from.name
-  _ ← good_name a.to.name
-  Ok (record { from = from; to = to })
+-- what is found can be done; where both names are one node's, nothing is asked any more
+unfoldable pub need_room : Tree → Renaming → Check (Unit {0})
+need_room t r = do
+  _ ← if reparents r then allow_move (climb t.nodes (fileid_at r.source.place) (deepest + 1) (fileid_at r.to.place)) else Ok tt
+  _ ← refuse_if (given r.target (is_in_the_way t r.source)) Exist
+  _ ← refuse_if (reparents r && is_none r.target && nat_le most_links r.to.inode.nlink) MLink
+  refuse_if (lacks_cookies r.to.inode) NoSpc
 
--- the caller may take the one name away and make the other
-unfoldable pub may_rename : Cred → Directories → RenameArgs (List ℕ) → Check (Unit {0})
-may_rename cred d a = do
-  _ ← unless (is_dots a.from.name || is_dots a.to.name) Inval
-  _ ← unless (is_snapshots_name (Live d.from.fileid) a.from.name || is_snapshots_name (Live d.to.fileid) a.to.name) Acces
-  _ ← unless (lacks_change cred d.from.node) Acces
-  unless (lacks_change cred d.to.node) Acces
-
--- what of it is done
-abbrev pub replaced_by : LiveNode → Replaced
-replaced_by l = record { fileid = l.fileid; is_directory = is_directory l.node.kind }
-
-abbrev pub move_of : Renaming → Move
-move_of r = record {
-  from = r.from.fileid;
-  to = r.to.fileid;
-  fileid = r.source.fileid;
-  reparents = reparents r;
-  replaced = option_map replaced_by r.target;
-}
-
--- the move can be made
-unfoldable pub movable : Tree → Renaming → Check RenamePlan
-movable t r = do
-  -- too deep below the root
-  _ ← unless (reparents r && not (is_in 1 (line_of t r.to.fileid))) NameTooLong
-  -- into itself, or below itself
-  _ ← unless (reparents r && is_in r.source.fileid (line_of t r.to.fileid)) Inval
-  _ ← unless (is_in_the_way r.source.node r.target) Exist
-  -- one subdirectory too many
-  _ ← unless (reparents r && is_none r.target && nat_le most_links r.to.node.nlink) MLink
-  _ ← unless (lacks_cookies r.to.node) NoSpc
-  Ok (Moved (move_of r))
-
-unfoldable pub renamed : Tree → Directories → LiveNode → Option LiveNode → Check RenamePlan
-renamed t d source target =
-    if is_node source.fileid target then Ok (Same d.from.fileid d.to.fileid)
-    else movable t (record { from = d.from; to = d.to; source = source; target = target })
+abbrev pub replaced_by : Object → Replaced
+replaced_by o = record { fileid = fileid_at o.place; is_directory = is_directory o.inode.kind }
 
 unfoldable pub rename_plan : Tree → Cred → RenameArgs (List ℕ) → Check RenamePlan
 rename_plan t cred a = do
-  d ← live_directories t a
-  _ ← may_rename cred d a
-  e ← some_or (named a.from.name d.from.node) NoEnt
-  source ← some_or (live_node t e.fileid) NoEnt
-  renamed t d source (target_of t (named a.to.name d.to.node))
+  r ← find_renaming t cred a
+  _ ← if is_same_node r then Ok tt else need_room t r
+  Ok (record {
+    from = fileid_at r.from.place;
+    to = fileid_at r.to.place;
+    fileid = fileid_at r.source.place;
+    is_same = is_same_node r;
+    reparents = reparents r;
+    replaced = option_map replaced_by r.target;
+  })
 
 -- what has the new name goes, as by REMOVE or RMDIR
 abbrev pub replace : Moment → ℕ → List ℕ → Option Replaced → Tree → Tree
 replace now to name (Some r) t =
-    if r.is_directory then directory_removed now to name r.fileid t else removed now to name r.fileid t
+    if r.is_directory then drop_directory now to name r.fileid t else remove_file now to name r.fileid t
 replace now to name None t = t
 
 -- a moved directory leaves its parent's links and joins the other's
-abbrev pub relinked : Move → Tree → Tree
-relinked m t = if m.reparents then at_node m.to linked (at_node m.from unlinked t) else t
+abbrev pub relink : RenamePlan → Tree → Tree
+relink p t = if p.reparents then edit_node p.to add_link (edit_node p.from drop_link t) else t
 
--- the moved node: a directory that gets another parent has it
-abbrev pub renewed : Move → Moment → Node → Node
-renewed m now n = changed now (if m.reparents then record n { parent = m.to } else n)
+-- a directory that gets another parent has it
+abbrev pub renew : RenamePlan → Moment → Node → Node
+renew p now n = set_ctime now (if p.reparents then set_parent p.to n else n)
 
-unfoldable pub moved : Moment → RenameArgs (List ℕ) → Move → Tree → Tree
-moved now a m t =
-    at_node m.fileid (renewed m now)
-    (at_node m.to (λ n. touched now (naming a.to.name m.fileid n))
-    (at_node m.from (λ n. touched now (without_name a.from.name n))
-    (relinked m
-    (replace now m.to a.to.name m.replaced t))))
+unfoldable pub move_node : Moment → RenameArgs (List ℕ) → RenamePlan → Tree → Tree
+move_node now a p t =
+    edit_node p.fileid (renew p now)
+    (edit_node p.to (λ n. touch now (add_name a.to.name p.fileid n))
+    (edit_node p.from (λ n. touch now (drop_name a.from.name n))
+    (relink p
+    (replace now p.to a.to.name p.replaced t))))
 
-abbrev pub rename_edit : Tree → RenameArgs (List ℕ) → Moment → RenamePlan → Tree
-rename_edit t a now (Same from to) = t
-rename_edit t a now (Moved m) = moved now a m t
-
-abbrev pub rename_told : Tree → RenamePlan → Tree → Body
-rename_told t (Same from to) after = Rename (record { from = change t after (Live from); to = change t after (Live to) })
-rename_told t (Moved m) after = Rename (record { from = change t after (Live m.from); to = change t after (Live m.to) })
-
-unfoldable pub rename : Tree → Cred → RenameArgs (List ℕ) → Moment → Outcome
-rename t cred a now = done 14 t (rename_plan t cred a) (rename_edit t a now) (rename_told t)
+unfoldable pub rename : Tree → Cred → RenameArgs (List ℕ) → Moment → Row
+rename t cred a now =
+    done (rename_plan t cred a)
+    (λ plan. if plan.is_same then t else move_node now a plan t)
+    (λ plan after. Rename (record { from = change t after (Live plan.from); to = change t after (Live plan.to) }))
 
 -- ---- LINK
 
--- the file, and the directory of the new name
-pub record Linking : Type 0 where
-  pub file : LiveNode
-  pub directory : LiveNode
-
 -- a file that is not in the live tree is in another file system than the directory
-unfoldable pub linking : Tree → LinkArgs (List ℕ) → Check Linking
-linking t a = do
-  first ← found t a.file
-  second ← found t a.link.directory
-  _ ← as_directory second
-  directory ← live second
-  file ← live_or Xdev first
-  _ ← good_name a.link.name
-  Ok (record { file = file; directory = directory })
-
 unfoldable pub link_plan : Tree → Cred → LinkArgs (List ℕ) → Check LinkPlan
 link_plan t cred a = do
-  l ← linking t a
-  _ ← unless (is_directory l.file.node.kind) Inval
-  _ ← unless (not (may_search cred l.directory.node)) Acces
-  _ ← free_name cred l.directory a.link.name
-  _ ← unless (nat_le most_links l.file.node.nlink) MLink
-  _ ← unless (lacks_cookies l.directory.node) NoSpc
-  Ok (record { file = l.file.fileid; directory = l.directory.fileid })
+  file ← find_object t a.file
+  directory ← find_object t a.link.directory
+  _ ← need_directory directory
+  _ ← need_live directory
+  _ ← need (is_live file.place) Xdev
+  _ ← need_good_name a.link.name
+  _ ← refuse_if (is_directory file.inode.kind) Inval
+  _ ← need_search cred directory
+  _ ← need_free_name t cred directory a.link.name
+  _ ← refuse_if (nat_le most_links file.inode.nlink) MLink
+  _ ← refuse_if (lacks_cookies directory.inode) NoSpc
+  Ok (record { file = fileid_at file.place; directory = fileid_at directory.place })
 
-unfoldable pub link : Tree → Cred → LinkArgs (List ℕ) → Moment → Outcome
+unfoldable pub link : Tree → Cred → LinkArgs (List ℕ) → Moment → Row
 link t cred a now =
-    done 15 t (link_plan t cred a)
-    (λ plan. at_node plan.directory (λ n. touched now (naming a.link.name plan.file n)) (at_node plan.file (λ n. changed now (linked n)) t))
+    done (link_plan t cred a)
+    (λ plan.
+    edit_node plan.directory (λ n. touch now (add_name a.link.name plan.file n))
+    (edit_node plan.file (λ n. set_ctime now (add_link n)) t))
     (λ plan after. Link (record { attributes = shown after (Live plan.file); directory = change t after (Live plan.directory) }))

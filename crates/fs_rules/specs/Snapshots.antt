@@ -1,81 +1,89 @@
--- Snapshots: MKDIR in the directory `.snapshot` takes one, and RMDIR there drops one. They are this service's
--- own; a snapshot's files are read as any others, and never change.
-use Rattle.std.specs.Prelude.{ℕ, ◌+◌, ◌==◌, nat_le, Bool, true, false, ◌||◌, not, List, [], ◌∷◌, ◌++◌, length, filter, bytes_eq, is_some, Result, Ok, Err}
+-- MKDIR and RMDIR. In the directory `.snapshot`, MKDIR takes a snapshot and RMDIR drops one: snapshots are this
+-- service's own; their files are read as any others, and never change.
+use Rattle.std.specs.Prelude.{ℕ, ◌+◌, ◌==◌, nat_le, Bool, true, false, ◌||◌, not, if◌then◌else◌, List, [], ◌∷◌, ◌++◌, length}
+use Rattle.std.specs.Prelude.{filter, bytes_eq, is_some}
+use Rattle.nfs3_types.specs.declared.args.DirOp.{DirOp}
+use Rattle.nfs3_types.specs.declared.args.MkdirArgs.{MkdirArgs}
 use Rattle.nfs3_types.specs.declared.body.Body.TheVariants.{Mkdir, Rmdir}
 use Rattle.nfs3_types.specs.declared.cred.Cred.{Cred}
 use Rattle.nfs3_types.specs.declared.moment.Moment.{Moment}
 use Rattle.nfs3_types.specs.declared.status.Status.TheVariants.{Acces, Exist, Inval, NoEnt, NoSpc}
 use Rattle.fs_rules.specs.declared.place.Place.{Place}
-use Rattle.fs_rules.specs.declared.place.Place.TheVariants.{Live, SnapshotDirectory, Kept}
-use Rattle.fs_rules.specs.Checks.{Check, ◌>>=◌, found, good_name, some_or, unless}
-use Rattle.fs_rules.specs.Limits.{last_epoch, most_snapshots}
-use Rattle.fs_rules.specs.Making.{making_told}
-use Rattle.fs_rules.specs.Names.{is_dot, is_dot_dot, is_dots, named}
-use Rattle.fs_rules.specs.Outcomes.{Outcome, change, done}
-use Rattle.fs_rules.specs.Places.{Object, snapshot_directory}
-use Rattle.fs_rules.specs.declared.name.Name.{Name}
+use Rattle.fs_rules.specs.declared.place.Place.TheVariants.{SnapshotDirectory, Kept}
 use Rattle.fs_rules.specs.declared.times.Times.{Times}
-use Rattle.fs_rules.specs.Tree.{Snapshot, Tree}
+use Rattle.fs_rules.specs.Checks.{Check, Row, ◌>>=◌, done, find_object, need, need_good_name, refuse_if}
+use Rattle.fs_rules.specs.Limits.{last_epoch, most_snapshots}
+use Rattle.fs_rules.specs.Making.{make_directory, told_of_new}
+use Rattle.fs_rules.specs.Names.{is_dot, is_dot_dot, is_dots}
+use Rattle.fs_rules.specs.Places.{change, entry_at}
+use Rattle.fs_rules.specs.Removing.{remove_directory}
+use Rattle.fs_rules.specs.Tree.{Tree}
 
-abbrev pub is_snapshot_directory : Place → Bool
-is_snapshot_directory (Live fileid) = false
-is_snapshot_directory SnapshotDirectory = true
-is_snapshot_directory (Kept number fileid) = false
+abbrev pub touch_times : Moment → Times → Times
+touch_times now times = record times { mtime = now; ctime = now }
 
-abbrev pub leads_there : Check Object → Bool
-leads_there (Ok o) = is_snapshot_directory o.place
-leads_there (Err status) = false
+abbrev pub has_snapshot : Tree → List ℕ → Bool
+has_snapshot t name = is_some (entry_at t SnapshotDirectory name)
 
--- the handle is that of `.snapshot`
-unfoldable pub is_of_snapshots : Tree → List ℕ → Bool
-is_of_snapshots t handle = leads_there (found t handle)
-
-abbrev pub touched_times : Moment → Times → Times
-touched_times now times = record times { mtime = now; ctime = now }
-
--- ---- MKDIR
+-- ---- taking one
 
 -- user 0 alone takes snapshots
-unfoldable pub taking : Tree → Cred → List ℕ → Check (Unit {0})
-taking t cred name = do
-  _ ← good_name name
-  _ ← unless (not (cred.uid == 0)) Acces
-  _ ← unless (is_dots name || is_some (named name (snapshot_directory t))) Exist
-  unless (nat_le most_snapshots (length t.snapshots) || nat_le last_epoch t.epoch) NoSpc
+unfoldable pub need_new_snapshot : Tree → Cred → List ℕ → Check (Unit {0})
+need_new_snapshot t cred name = do
+  _ ← need_good_name name
+  _ ← need (cred.uid == 0) Acces
+  _ ← refuse_if (is_dots name || has_snapshot t name) Exist
+  _ ← refuse_if (nat_le most_snapshots (length t.snapshots)) NoSpc
+  refuse_if (nat_le last_epoch t.epoch) NoSpc
 
 -- a whole copy of the live tree
-unfoldable pub taken : Moment → List ℕ → Tree → Tree
-taken now name t = record t {
+unfoldable pub add_snapshot : Moment → List ℕ → Tree → Tree
+add_snapshot now name t = record t {
   epoch = t.epoch + 1;
-  snapshot_times = touched_times now t.snapshot_times;
+  snapshot_times = touch_times now t.snapshot_times;
   snapshots = t.snapshots ++ record { name = name; number = t.epoch; nodes = t.nodes } ∷ [];
 }
 
-unfoldable pub take_snapshot : Tree → Cred → List ℕ → Moment → Outcome
+unfoldable pub take_snapshot : Tree → Cred → List ℕ → Moment → Row
 take_snapshot t cred name now =
-    done 9 t (taking t cred name)
-    (λ plan. taken now name t)
-    (λ plan after. Mkdir (making_told t after SnapshotDirectory (Kept t.epoch 1)))
+    done (need_new_snapshot t cred name)
+    (λ plan. add_snapshot now name t)
+    (λ plan after. Mkdir (told_of_new t after SnapshotDirectory (Kept t.epoch 1)))
 
--- ---- RMDIR
+-- ---- dropping one
 
-unfoldable pub dropping : Tree → Cred → List ℕ → Check (Unit {0})
-dropping t cred name = do
-  _ ← good_name name
-  _ ← unless (is_dot name) Inval
-  _ ← unless (is_dot_dot name) Exist
-  _ ← unless (not (cred.uid == 0)) Acces
-  _ ← some_or (named name (snapshot_directory t)) NoEnt
-  Ok tt
+unfoldable pub need_snapshot : Tree → Cred → List ℕ → Check (Unit {0})
+need_snapshot t cred name = do
+  _ ← need_good_name name
+  _ ← refuse_if (is_dot name) Inval
+  _ ← refuse_if (is_dot_dot name) Exist
+  _ ← need (cred.uid == 0) Acces
+  need (has_snapshot t name) NoEnt
 
-unfoldable pub dropped : Moment → List ℕ → Tree → Tree
-dropped now name t = record t {
-  snapshot_times = touched_times now t.snapshot_times;
+unfoldable pub drop_named : Moment → List ℕ → Tree → Tree
+drop_named now name t = record t {
+  snapshot_times = touch_times now t.snapshot_times;
   snapshots = filter (λ s. not (bytes_eq s.name name)) t.snapshots;
 }
 
-unfoldable pub drop_snapshot : Tree → Cred → List ℕ → Moment → Outcome
+unfoldable pub drop_snapshot : Tree → Cred → List ℕ → Moment → Row
 drop_snapshot t cred name now =
-    done 13 t (dropping t cred name)
-    (λ plan. dropped now name t)
+    done (need_snapshot t cred name)
+    (λ plan. drop_named now name t)
     (λ plan after. Rmdir (change t after SnapshotDirectory))
+
+-- ---- the two procedures
+
+abbrev pub is_snapshot_directory : Place → Bool
+is_snapshot_directory SnapshotDirectory = true
+is_snapshot_directory place = false
+
+unfoldable pub mkdir : Tree → Cred → MkdirArgs (List ℕ) → Moment → ℕ → Row
+mkdir t cred a now lane = do
+  o ← find_object t a.place.directory
+  if is_snapshot_directory o.place then take_snapshot t cred a.place.name now else make_directory t cred a now lane o
+
+unfoldable pub rmdir : Tree → Cred → DirOp (List ℕ) → Moment → Row
+rmdir t cred a now = do
+  o ← find_object t a.directory
+  if is_snapshot_directory o.place then drop_snapshot t cred a.name now else remove_directory t cred a.name now o

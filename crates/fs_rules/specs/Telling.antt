@@ -5,18 +5,19 @@ use Rattle.nfs3_types.specs.declared.args.AccessArgs.{AccessArgs}
 use Rattle.nfs3_types.specs.declared.body.Body.{Body}
 use Rattle.nfs3_types.specs.declared.body.Body.TheVariants.{GetAttr, Access, ReadLink, FsStat, FsInfo, PathConf}
 use Rattle.nfs3_types.specs.declared.cred.Cred.{Cred}
+use Rattle.nfs3_types.specs.declared.status.Status.TheVariants.{Inval}
 use Rattle.fs_rules.specs.declared.place.Place.{Place}
-use Rattle.fs_rules.specs.declared.place.Place.TheVariants.{Live, SnapshotDirectory, Kept}
-use Rattle.fs_rules.specs.Attributes.{is_directory}
-use Rattle.fs_rules.specs.Checks.{Check, ◌>>=◌, found, as_link}
-use Rattle.fs_rules.specs.Limits.{longest_name, most_links, most_size, most_transfer}
-use Rattle.fs_rules.specs.Places.{Object, attributes}
+use Rattle.fs_rules.specs.declared.place.Place.TheVariants.{Kept}
+use Rattle.fs_rules.specs.Attributes.{is_directory, is_link}
+use Rattle.fs_rules.specs.Checks.{Check, ◌>>=◌, find_object, need}
+use Rattle.fs_rules.specs.Limits.{longest_name, most_links, most_size, told_listing, told_transfer}
+use Rattle.fs_rules.specs.Places.{Object, attributes, content_at}
 use Rattle.fs_rules.specs.Rights.{may_read, may_search, may_write}
 use Rattle.fs_rules.specs.Tree.{Tree}
 
 unfoldable pub get_attr : Tree → List ℕ → Check Body
 get_attr t handle = do
-  o ← found t handle
+  o ← find_object t handle
   Ok (GetAttr (attributes t o))
 
 -- ---- ACCESS: READ 1, LOOKUP 2, MODIFY 4, EXTEND 8, DELETE 16, EXECUTE 32
@@ -26,41 +27,40 @@ bits_if bits allowed = if allowed then bits else 0
 
 -- nothing in a snapshot is modified, extended or deleted
 abbrev pub is_kept : Place → Bool
-is_kept (Live fileid) = false
-is_kept SnapshotDirectory = false
 is_kept (Kept number fileid) = true
+is_kept place = false
 
-abbrev pub in_directory : Cred → Object → ℕ
-in_directory cred o =
-    bits_if 1 (may_read cred o.node) + bits_if 2 (may_search cred o.node)
-    + bits_if 28 (may_write cred o.node && may_search cred o.node && not (is_kept o.place))
+abbrev pub allowed_in : Cred → Object → ℕ
+allowed_in cred o =
+    bits_if 1 (may_read cred o.inode) + bits_if 2 (may_search cred o.inode)
+    + bits_if 28 (may_write cred o.inode && may_search cred o.inode && not (is_kept o.place))
 
-abbrev pub of_other : Cred → Object → ℕ
-of_other cred o =
-    bits_if 1 (may_read cred o.node) + bits_if 32 (may_search cred o.node)
-    + bits_if 12 (may_write cred o.node && not (is_kept o.place))
+abbrev pub allowed_of : Cred → Object → ℕ
+allowed_of cred o =
+    bits_if 1 (may_read cred o.inode) + bits_if 32 (may_search cred o.inode)
+    + bits_if 12 (may_write cred o.inode && not (is_kept o.place))
 
 -- what the caller is allowed
 unfoldable pub allowed : Cred → Object → ℕ
-allowed cred o = if is_directory o.node.kind then in_directory cred o else of_other cred o
+allowed cred o = if is_directory o.inode.kind then allowed_in cred o else allowed_of cred o
 
 unfoldable pub access : Tree → Cred → AccessArgs (List ℕ) → Check Body
 access t cred a = do
-  o ← found t a.object
+  o ← find_object t a.object
   Ok (Access (record { attributes = Some (attributes t o); access = bit_and a.access (allowed cred o) }))
 
 unfoldable pub read_link : Tree → List ℕ → Check Body
 read_link t handle = do
-  o ← found t handle
-  _ ← as_link o
-  Ok (ReadLink (record { attributes = Some (attributes t o); target = o.node.content }))
+  o ← find_object t handle
+  _ ← need (is_link o.inode.kind) Inval
+  Ok (ReadLink (record { attributes = Some (attributes t o); target = content_at t o.place }))
 
 -- ---- the file system
 
 -- there is always room for 2^60 bytes and files more
 unfoldable pub fs_stat : Tree → List ℕ → Check Body
 fs_stat t handle = do
-  o ← found t handle
+  o ← find_object t handle
   Ok (FsStat (record {
     attributes = Some (attributes t o);
     tbytes = 2 ^ 60;
@@ -76,16 +76,16 @@ fs_stat t handle = do
 -- ones, 2, all files are alike, 8, and times can be set, 16
 unfoldable pub fs_info : Tree → List ℕ → Check Body
 fs_info t handle = do
-  o ← found t handle
+  o ← find_object t handle
   Ok (FsInfo (record {
     attributes = Some (attributes t o);
-    rtmax = most_transfer;
-    rtpref = most_transfer;
+    rtmax = told_transfer;
+    rtpref = told_transfer;
     rtmult = 4096;
-    wtmax = most_transfer;
-    wtpref = most_transfer;
+    wtmax = told_transfer;
+    wtpref = told_transfer;
     wtmult = 4096;
-    dtpref = most_transfer;
+    dtpref = told_listing;
     maxfilesize = most_size;
     time_delta = record { seconds = 0; nanos = 1 };
     properties = 27;
@@ -93,7 +93,7 @@ fs_info t handle = do
 
 unfoldable pub path_conf : Tree → List ℕ → Check Body
 path_conf t handle = do
-  o ← found t handle
+  o ← find_object t handle
   Ok (PathConf (record {
     attributes = Some (attributes t o);
     linkmax = most_links;

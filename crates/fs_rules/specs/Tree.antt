@@ -1,33 +1,18 @@
 -- The plain tree: all that one export keeps, as plain data. A snapshot is a whole copy, and a file's content is
 -- all of its bytes (RFC 1813, sections 1.6 and 2.6; snapshots, lanes and cuts are this service's own).
 use Rattle.std.specs.Prelude.{ℕ, ◌==◌, if◌then◌else◌, List, [], ◌∷◌, slice_index_or, Option, Some, None}
-use Rattle.nfs3_types.specs.declared.file_type.FileType.{FileType}
 use Rattle.nfs3_types.specs.declared.file_type.FileType.TheVariants.{Dir}
 use Rattle.nfs3_types.specs.declared.moment.Moment.{Moment}
-use Rattle.fs_rules.specs.declared.name.Name.{Name}
+use Rattle.fs_rules.specs.declared.inode.Inode.{Inode}
+use Rattle.fs_rules.specs.declared.name_entry.NameEntry.{NameEntry}
 use Rattle.fs_rules.specs.declared.times.Times.{Times}
 
 pub record Node : Type 0 where
-  pub kind : FileType
-  pub mode : ℕ
-  pub nlink : ℕ
-  pub uid : ℕ
-  pub gid : ℕ
-  pub atime : Moment
-  pub mtime : Moment
-  pub ctime : Moment
+  pub inode : Inode
   -- the bytes of a file, or the path that a symbolic link leads to
   pub content : List ℕ
   -- what a directory has, by rising cookie
-  pub names : List Name
-  -- the cookie of the next name that a directory gets
-  pub next_cookie : ℕ
-  -- the directory that a directory stands in
-  pub parent : ℕ
-  -- the verifier of the EXCLUSIVE CREATE that made the file
-  pub verifier : Option (List ℕ)
-  -- how often a call made the file smaller
-  pub cuts : ℕ
+  pub names : List NameEntry
 
 -- nodes by their numbers
 abbrev pub Nodes : Type 0
@@ -59,30 +44,31 @@ next_fileid t lane = slice_index_or t.next_fileids lane 0
 
 -- ---- the first tree
 
-abbrev pub always : Moment → Times
-always at = record { atime = at; mtime = at; ctime = at }
-
--- a directory of mode 0755 of owner and group 0, with these names; it is its own parent
-unfoldable pub root_at : Moment → Node
-root_at first = record {
+-- a directory in the root, of owner and group 0
+unfoldable pub root_inode : ℕ → ℕ → Times → Inode
+root_inode nlink next_cookie times = record {
   kind = Dir;
+  -- octal 0755
   mode = 493;
-  nlink = 2;
+  nlink = nlink;
   uid = 0;
   gid = 0;
-  atime = first;
-  mtime = first;
-  ctime = first;
-  content = [];
-  names = [];
-  next_cookie = 3;
+  atime = times.atime;
+  mtime = times.mtime;
+  ctime = times.ctime;
   parent = 1;
+  next_cookie = next_cookie;
   verifier = None;
   cuts = 0;
 }
 
+abbrev pub always : Moment → Times
+always at = record { atime = at; mtime = at; ctime = at }
+
+-- the root is its own parent
 abbrev pub first_nodes : Moment → Nodes
-first_nodes first = λ fileid. if fileid == 1 then Some (root_at first) else None
+first_nodes first = λ fileid.
+    if fileid == 1 then Some (record { inode = root_inode 2 3 (always first); content = []; names = [] }) else None
 
 abbrev pub first_fileids : List ℕ
 first_fileids = 16 ∷ 17 ∷ 18 ∷ 19 ∷ 20 ∷ 21 ∷ 22 ∷ 23 ∷ 24 ∷ 25 ∷ 26 ∷ 27 ∷ 28 ∷ 29 ∷ 30 ∷ 31 ∷ []

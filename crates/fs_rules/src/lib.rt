@@ -2,20 +2,25 @@
 //!
 //! Its definitions are the plain tree, the answer table and what a sound tree is (in `specs/`); its calls are
 //! the rules on rights, names and attributes that several layers share, which take no memory.
-//! It stands on `nfs3_types` alone.
+//! It stands on `nfs3_types`, and on `byteorder` for words among bytes.
 #![tactic(auto)]
 
-mod name;
+mod inode;
+pub mod limits;
+mod name_entry;
 mod place;
 mod plans;
 mod rules;
 mod times;
 
-pub use name::Name;
+pub use inode::Inode;
+pub use name_entry::NameEntry;
 pub use place::Place;
 pub use plans::{
-    CreatePlan, LinkPlan, Move, NewPlan, RemovePlan, RenamePlan, Replaced, ReusePlan, SetAttrPlan,
-    WritePlan,
+    Climb, CreatePlan, LinkPlan, NewPlan, RemovePlan, RenamePlan, Replaced, SetAttrPlan, WritePlan,
 };
-pub use rules::{apply_sattr, may, name_fault, sattr_fault, target_fault, wcc_of};
+pub use rules::{
+    apply_sattr, is_in_group, is_too_large, may_read, may_search, may_write, name_fault, owns,
+    sattr_fault, target_fault, time_by, wcc_of,
+};
 pub use times::Times;

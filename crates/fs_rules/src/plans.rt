@@ -21,7 +21,7 @@ pub struct WritePlan {
     pub count: u32,
 }
 
-/// MKDIR, SYMLINK, and CREATE of a new file: the directory, and the number of what is made.
+/// MKDIR and SYMLINK: the directory, and the number of what is made.
 #[derive(Clone, Copy, Debug, PartialEq, Eq)]
 pub struct NewPlan {
     /// The directory.
@@ -30,24 +30,17 @@ pub struct NewPlan {
     pub fileid: u64,
 }
 
-/// CREATE over a file that is there.
+/// CREATE.
 #[derive(Clone, Copy, Debug, PartialEq, Eq)]
-pub struct ReusePlan {
+pub struct CreatePlan {
     /// The directory.
     pub directory: u64,
     /// The file.
     pub fileid: u64,
-    /// The size that it gets, where one is given.
+    /// Whether it is made; else it is there.
+    pub is_new: bool,
+    /// The size that a file that is there gets, where one is given.
     pub size: Option<u64>,
-}
-
-/// CREATE.
-#[derive(Clone, Copy, Debug, PartialEq, Eq)]
-pub enum CreatePlan {
-    /// The file is there.
-    Reused(ReusePlan),
-    /// It is made.
-    Fresh(NewPlan),
 }
 
 /// REMOVE and RMDIR: the directory, and the node whose name goes.
@@ -68,28 +61,21 @@ pub struct Replaced {
     pub is_directory: bool,
 }
 
-/// RENAME of a node to a name that it does not have.
+/// RENAME.
 #[derive(Clone, Copy, Debug, PartialEq, Eq)]
-pub struct Move {
+pub struct RenamePlan {
     /// The directory of the old name.
     pub from: u64,
     /// The directory of the new name.
     pub to: u64,
     /// The node.
     pub fileid: u64,
+    /// Whether both names are the node's already, and stay.
+    pub is_same: bool,
     /// Whether a directory gets another parent.
     pub reparents: bool,
     /// What has the new name.
     pub replaced: Option<Replaced>,
-}
-
-/// RENAME.
-#[derive(Clone, Copy, Debug, PartialEq, Eq)]
-pub enum RenamePlan {
-    /// Both names are one node's, in these directories, and stay.
-    Same(u64, u64),
-    /// The node moves.
-    Moved(Move),
 }
 
 /// LINK: the file, and the directory of its further name.
@@ -99,4 +85,15 @@ pub struct LinkPlan {
     pub file: u64,
     /// The directory.
     pub directory: u64,
+}
+
+/// What the way from a directory up to the root says.
+#[derive(Clone, Copy, Debug, PartialEq, Eq)]
+pub enum Climb {
+    /// The root is further up than a directory may be below it.
+    TooDeep,
+    /// The way leads through the directory that was sought, and to the root.
+    Found,
+    /// It leads to the root, and not through that directory.
+    Root,
 }

@@ -1,24 +1,23 @@
 //! Rights, names and attributes: the rules that the layers above share. None of them takes memory.
 
-ghost use Rattle.std.specs.Prelude.{◌≡◌, ◌^◌};
-ghost use Rattle.fs_rules.specs.Attributes.{apply_sattr, is_above, is_client_time, is_file, is_foreign, is_other, is_server_time, lacks_write, mtime_by, sattr_fault, time_by, times_fault, wcc_attr, wcc_of};
+ghost use Rattle.std.specs.Prelude.{◌≡◌};
+ghost use Rattle.fs_rules.specs.Attributes.{apply_sattr, gives_away, is_client_time, is_file, is_server_time, is_too_large, lacks_write, mtime_by, regroups, sattr_fault, time_by, wcc_attr, wcc_of};
 ghost use Rattle.fs_rules.specs.Names.{has_byte, name_fault, target_fault};
-ghost use Rattle.fs_rules.specs.Rights.{bits_for, has_word, is_in_group, may, owns};
+ghost use Rattle.fs_rules.specs.Rights.{bits_for, has_word, is_in_group, may, may_read, may_search, may_write, owns};
 
+use crate::inode::Inode;
+use crate::limits::{LONGEST_NAME, LONGEST_TARGET, MOST_SIZE};
 use byteorder::{BigEndian, ByteOrder};
 use nfs3_types::{Cred, Fattr, FileType, Moment, Sattr, SetTime, Status, Wcc, WccAttr};
 
-/// The longest name in bytes.
-const LONGEST_NAME: usize = 255;
-
-/// The longest path of a symbolic link in bytes.
-const LONGEST_TARGET: usize = 1023;
-
-/// The greatest size of a file in bytes.
-const MOST_SIZE: u64 = 1 << 40;
+/// The right to read.
+const READ: u32 = 4;
 
 /// The right to write.
 const WRITE: u32 = 2;
+
+/// The right to execute a file, and to look names up in a directory.
+const SEARCH: u32 = 1;
 
 /// Whether a word is among words of four bytes each, the highest first.
 fn has_word(word: u32, bytes: &[u8]) -> bool
@@ -48,28 +47,62 @@ fn has_byte(byte: u8, text: &[u8]) -> bool
     false
 }
 
-/// The bits of the node's mode that count for a caller: the owner's, else the group's for a member of it, else
-/// the others'.
-#[tactic(auto, unfolding(crate::specs::Rights::bits_for, crate::specs::Rights::is_in_group))]
-fn bits_for(uid: u32, gid: u32, gids: &[u8], node: &Fattr) -> u32
-    ensures { result ≡ bits_for (record { uid = uid; gid = gid; gids = gids.now }) node.now.mode node.now.uid node.now.gid }
+/// Whether a caller is in a group.
+#[tactic(auto, unfolding(crate::specs::Rights::is_in_group))]
+pub fn is_in_group(c: &Cred, gid: u32) -> bool
+    ensures { result ≡ is_in_group c.now gid }
 {
-    if uid == node.uid {
-        node.mode / 64 % 8
-    } else if gid == node.gid || has_word(node.gid, gids) {
-        node.mode / 8 % 8
+    c.gid == gid || has_word(gid, c.gids.as_slice())
+}
+
+/// The bits of a mode that count for a caller: the owner's, else the group's for a member of it, else the others'.
+#[tactic(auto, unfolding(crate::specs::Rights::bits_for))]
+fn bits_for(c: &Cred, mode: u32, uid: u32, gid: u32) -> u32
+    ensures { result ≡ bits_for c.now mode uid gid }
+{
+    if c.uid == uid {
+        mode / 64 % 8
+    } else if is_in_group(c, gid) {
+        mode / 8 % 8
     } else {
-        node.mode % 8
+        mode % 8
     }
 }
 
-/// Whether a caller may do all that is wanted with a node: a sum of 4, to read, 2, to write, and 1, to execute
-/// or to look up. The groups are four bytes each. User 0 may do all.
+/// Whether a caller may do all that is wanted with what has this mode, owner and group. User 0 may do all.
 #[tactic(auto, unfolding(crate::specs::Rights::may))]
-pub fn may(uid: u32, gid: u32, gids: &[u8], node: &Fattr, want: u32) -> bool
-    ensures { result ≡ may (record { uid = uid; gid = gid; gids = gids.now }) node.now.mode node.now.uid node.now.gid want }
+fn may(c: &Cred, mode: u32, uid: u32, gid: u32, want: u32) -> bool
+    ensures { result ≡ may c.now mode uid gid want }
 {
-    uid == 0 || bits_for(uid, gid, gids, node) & want == want
+    c.uid == 0 || bits_for(c, mode, uid, gid) & want == want
+}
+
+/// Whether a caller may read a file, or list a directory.
+pub fn may_read(c: &Cred, i: &Inode) -> bool
+    ensures { result ≡ may_read c.now i.now }
+{
+    may(c, i.mode, i.uid, i.gid, READ)
+}
+
+/// Whether a caller may write a file, or names in a directory.
+pub fn may_write(c: &Cred, i: &Inode) -> bool
+    ensures { result ≡ may_write c.now i.now }
+{
+    may(c, i.mode, i.uid, i.gid, WRITE)
+}
+
+/// Whether a caller may execute a file, or look names up in a directory.
+pub fn may_search(c: &Cred, i: &Inode) -> bool
+    ensures { result ≡ may_search c.now i.now }
+{
+    may(c, i.mode, i.uid, i.gid, SEARCH)
+}
+
+/// Whether a caller is user 0 or this user, the owner.
+pub fn owns(c: &Cred, uid: u32) -> bool
+    ensures { result ≡ owns c.now uid }
+{
+    c.uid == 0 || c.uid == uid
 }
 
 /// What is wrong with a name: INVAL where it is empty or has a NUL or a slash, and else NAMETOOLONG where it is
@@ -124,64 +157,43 @@ fn is_server_time(time: SetTime) -> bool
     }
 }
 
-/// User 0 and the owner.
-fn owns(c: &Cred, node: &Fattr) -> bool
-    ensures { result ≡ owns c.now node.now.uid }
-{
-    c.uid == 0 || c.uid == node.uid
-}
-
 /// Whether the caller is neither user 0 nor the owner, and may not write.
 fn lacks_write(c: &Cred, node: &Fattr) -> bool
     ensures { result ≡ lacks_write c.now node.now }
 {
-    !(owns(c, node) || may(c.uid, c.gid, c.gids.as_slice(), node, WRITE))
+    !(owns(c, node.uid) || may(c, node.mode, node.uid, node.gid, WRITE))
 }
 
-/// Whether a user is given that is another one than this.
-fn is_other(given: Option<u32>, uid: u32) -> bool
-    ensures { result ≡ is_other given uid }
+/// Whether another than user 0 gives a file to another user than himself, or a file that is not his to anyone.
+fn gives_away(c: &Cred, node: &Fattr, uid: Option<u32>) -> bool
+    ensures { result ≡ gives_away c.now node.now uid }
 {
-    match given {
-        Some(given) => given != uid,
+    match uid {
+        Some(uid) => c.uid != 0 && (c.uid != node.uid || uid != c.uid),
         None => false,
     }
 }
 
-/// Whether a group is given that is neither the node's nor one of the caller's.
-#[tactic(auto, unfolding(crate::specs::Rights::is_in_group))]
-fn is_foreign(c: &Cred, gid: u32, given: Option<u32>) -> bool
-    ensures { result ≡ is_foreign c.now gid given }
+/// The same of a group: the owner may give a file to its own group, and to those that he is in.
+fn regroups(c: &Cred, node: &Fattr, gid: Option<u32>) -> bool
+    ensures { result ≡ regroups c.now node.now gid }
 {
-    match given {
-        Some(given) => { !(given == gid || c.gid == given || has_word(given, c.gids.as_slice())) }
+    match gid {
+        Some(gid) => {
+            c.uid != 0 && (c.uid != node.uid || !(gid == node.gid || is_in_group(c, gid)))
+        }
         None => false,
     }
 }
 
 /// Whether a size is given that is above the greatest.
-fn is_above(given: Option<u64>) -> bool
-    ensures { result ≡ is_above given (2 ^ 40) }
+#[tactic(auto, unfolding(crate::specs::Limits::most_size))]
+pub fn is_too_large(size: Option<u64>) -> bool
+    ensures { result ≡ is_too_large size }
 {
-    match given {
-        Some(given) => given > MOST_SIZE,
+    match size {
+        Some(size) => size > MOST_SIZE,
         None => false,
-    }
-}
-
-/// Why the caller may not set these times, or this size, the first that fits.
-#[tactic(auto, unfolding(crate::specs::Attributes::times_fault, crate::specs::Limits::most_size))]
-fn times_fault(c: &Cred, node: &Fattr, s: &Sattr) -> Option<Status>
-    ensures { result ≡ times_fault c.now node.now s.now }
-{
-    if (is_client_time(s.atime) || is_client_time(s.mtime)) && !owns(c, node) {
-        Some(Status::Perm)
-    } else if (is_server_time(s.atime) || is_server_time(s.mtime)) && lacks_write(c, node) {
-        Some(Status::Acces)
-    } else if is_above(s.size) {
-        Some(Status::Inval)
-    } else {
-        None
     }
 }
 
@@ -194,27 +206,31 @@ fn times_fault(c: &Cred, node: &Fattr, s: &Sattr) -> Option<Status>
 pub fn sattr_fault(c: &Cred, node: &Fattr, s: &Sattr) -> Option<Status>
     ensures { result ≡ sattr_fault c.now node.now s.now }
 {
-    let is_root = c.uid == 0;
-    let is_owner = c.uid == node.uid;
     if s.size.is_some() && node.kind != FileType::Reg {
         Some(Status::Inval)
-    } else if s.mode.is_some() && !owns(c, node) {
+    } else if s.mode.is_some() && !owns(c, node.uid) {
         Some(Status::Perm)
-    } else if s.uid.is_some() && !is_root && (!is_owner || is_other(s.uid, c.uid)) {
+    } else if gives_away(c, node, s.uid) {
         Some(Status::Perm)
-    } else if s.gid.is_some() && !is_root && (!is_owner || is_foreign(c, node.gid, s.gid)) {
+    } else if regroups(c, node, s.gid) {
         Some(Status::Perm)
     } else if s.size.is_some() && lacks_write(c, node) {
         Some(Status::Acces)
+    } else if (is_client_time(s.atime) || is_client_time(s.mtime)) && !owns(c, node.uid) {
+        Some(Status::Perm)
+    } else if (is_server_time(s.atime) || is_server_time(s.mtime)) && lacks_write(c, node) {
+        Some(Status::Acces)
+    } else if is_too_large(s.size) {
+        Some(Status::Inval)
     } else {
-        times_fault(c, node, s)
+        None
     }
 }
 
 // ---- how it is set
 
 /// A time that is set now, or stays.
-fn time_by(how: SetTime, now: Moment, old: Moment) -> Moment
+pub fn time_by(how: SetTime, now: Moment, old: Moment) -> Moment
     ensures { result ≡ time_by how now old }
 {
     match how {
@@ -254,17 +270,18 @@ pub fn apply_sattr(node: &Fattr, s: &Sattr, now: Moment) -> Fattr
     }
 }
 
-/// What a caller may see of a change: size, mtime and ctime before, and the attributes after (wcc_data).
+/// What a caller may see of a change: size, mtime and ctime before, and the attributes after, where there are any
+/// (RFC 1813, section 2.6, wcc_data).
 #[tactic(auto, unfolding(crate::specs::Attributes::wcc_of))]
-pub fn wcc_of(before: &Fattr, after: &Fattr) -> Wcc
-    ensures { result ≡ wcc_of before.now after.now }
+pub fn wcc_of(before: Option<Fattr>, after: Option<Fattr>) -> Wcc
+    ensures { result ≡ wcc_of before after }
 {
     Wcc {
-        before: Some(WccAttr {
-            size: before.size,
-            mtime: before.mtime,
-            ctime: before.ctime,
+        before: before.map(|a| WccAttr {
+            size: a.size,
+            mtime: a.mtime,
+            ctime: a.ctime,
         }),
-        after: Some(*after),
+        after,
     }
 }
