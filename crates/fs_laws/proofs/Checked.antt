@@ -5,12 +5,10 @@ use Rattle.std.specs.Prelude.{⊤, IfSome, MatchResult}
 use Rattle.nfs3_types.specs.declared.args.DirOp.{DirOp}
 use Rattle.nfs3_types.specs.declared.status.Status.{Status}
 use Rattle.nfs3_types.specs.declared.status.Status.TheVariants.{Ok as StatusOk, ServerFault, Jukebox}
-use Rattle.fs_rules.specs.declared.place.Place.{Place}
-use Rattle.fs_rules.specs.declared.place.Place.TheVariants.{Live, SnapshotDirectory, Kept}
-use Rattle.fs_rules.specs.Checks.{Check, ◌>>=◌, as_directory, as_file, as_link, found, good_name, live_directory, live_in, live_or, no_fault, some_or, unless}
+use Rattle.fs_rules.specs.Checks.{Check, find_directory, find_object, need_place_for, no_fault, refuse_if, some_or, ◌>>=◌}
 use Rattle.fs_rules.specs.Names.{name_fault, target_fault}
 use Rattle.fs_rules.specs.Places.{Object}
-use Rattle.fs_rules.specs.Tree.{Node, Tree}
+use Rattle.fs_rules.specs.Tree.{Tree}
 
 -- neither OK, nor that the server failed or is to be called again later
 abbrev pub is_refusal : Status → Bool
@@ -37,14 +35,16 @@ pub either_is : {A : Type 0} (P : A → Type 0) (b : Bool) (x y : A) → P x →
 either_is P true x y first second = first
 either_is P false x y first second = second
 
--- a check, and the checks behind it, which may count on what it found
-pub in_order : {A B : Type 0} (P : A → Type 0) (Q : B → Type 0) (c : Check A) (f : A → Check B) → Shows P c → ((a : A) → P a → Shows Q (f a)) → Shows Q (c >>= f)
+-- a check, and the checks in_turn it, which may count on what it found
+pub in_order : {A B : Type 0} (P : A → Type 0) (Q : B → Type 0) (c : Check A) (f : A → Check B) → Shows P c
+    → ((a : A) → P a → Shows Q (f a)) → Shows Q (c >>= f)
 in_order P Q (Ok a) f first next = next a first.is
 in_order P Q (Err status) f first next = record { is = first.is }
 
 -- the same where nothing is known of what it found
-pub behind : {A B : Type 0} (Q : B → Type 0) {c : Check A} {f : A → Check B} → Shows Any c → ((a : A) → Shows Q (f a)) → Shows Q (c >>= f)
-behind Q {c = c} {f = f} first next = in_order Any Q c f first (λ a _. next a)
+pub in_turn : {A B : Type 0} (Q : B → Type 0) {c : Check A} {f : A → Check B} → Shows Any c → ((a : A) → Shows Q (f a))
+    → Shows Q (c >>= f)
+in_turn Q {c = c} {f = f} first next = in_order Any Q c f first (λ a _. next a)
 
 pub gives : {A : Type 0} (P : A → Type 0) (a : A) → P a → Shows P (Ok a)
 gives P a h = record { is = h }
@@ -53,7 +53,7 @@ pub weaker : {A : Type 0} (P Q : A → Type 0) (c : Check A) → Shows P c → (
 weaker P Q (Ok a) h follows = record { is = follows a h.is }
 weaker P Q (Err status) h follows = record { is = h.is }
 
-pub unless_shows : (b : Bool) (status : Status) → IsRefusal status → Shows Any (unless b status)
+pub unless_shows : (b : Bool) (status : Status) → IsRefusal status → Shows Any (refuse_if b status)
 unless_shows true status h = record { is = h }
 unless_shows false status h = record { is = tt }
 
@@ -66,30 +66,9 @@ either_shows P b c d first second = either_is (Shows P) b c d first second
 
 -- ---- the checks that plans share
 
-pub found_shows : (t : Tree) (bytes : List ℕ) → Shows Any (found t bytes)
-unfolding found
-found_shows t bytes = search (behind, some_or_shows)
-
-pub as_directory_shows : (o : Object) → Shows Any (as_directory o)
-unfolding as_directory
-as_directory_shows o = search unless_shows
-
-pub as_file_shows : (o : Object) → Shows Any (as_file o)
-unfolding as_file
-as_file_shows o = search unless_shows
-
-pub as_link_shows : (o : Object) → Shows Any (as_link o)
-unfolding as_link
-as_link_shows o = search unless_shows
-
-live_in_shows : (status : Status) (place : Place) (n : Node) → IsRefusal status → Shows Any (live_in status place n)
-live_in_shows status (Live fileid) n h = record { is = tt }
-live_in_shows status SnapshotDirectory n h = record { is = h }
-live_in_shows status (Kept number fileid) n h = record { is = h }
-
-pub live_or_shows : (status : Status) (o : Object) → IsRefusal status → Shows Any (live_or status o)
-unfolding live_or
-live_or_shows status o h = live_in_shows status o.place o.node h
+pub find_object_shows : (t : Tree) (bytes : List ℕ) → Shows Any (find_object t bytes)
+unfolding find_object
+find_object_shows t bytes = search (in_turn, some_or_shows)
 
 -- a status, where there is one, is one of a refusal
 pub record Refuses (fault : Option Status) : Type 0 where
@@ -116,26 +95,23 @@ pub target_fault_refuses : (target : List ℕ) → Refuses (target_fault target)
 unfolding target_fault
 target_fault_refuses target = search (either_refuses, some_refuses, no_refuses)
 
-pub good_name_shows : (name : List ℕ) → Shows Any (good_name name)
-unfolding good_name
-good_name_shows name = no_fault_shows (name_fault name) (name_fault_refuses name)
+pub need_place_for_shows : (o : Object) (name : List ℕ) → Shows Any (need_place_for o name)
+unfolding need_place_for
+need_place_for_shows o name = search (in_turn, unless_shows, no_fault_shows, name_fault_refuses)
 
-pub live_directory_shows : (t : Tree) (a : DirOp (List ℕ)) → Shows Any (live_directory t a)
-unfolding live_directory
-live_directory_shows t a = search (behind, found_shows, as_directory_shows, live_or_shows, good_name_shows, gives) depth 12
+pub find_directory_shows : (t : Tree) (a : DirOp (List ℕ)) → Shows Any (find_directory t a)
+unfolding find_directory
+find_directory_shows t a = search (in_turn, find_object_shows, need_place_for_shows, gives)
 
 -- what a plan shows is found from its parts: `search checks`, under `unfolding` of the plan
 pub ruleset checks = (
-  behind,
+  in_turn,
   gives,
   unless_shows,
   some_or_shows,
   no_fault_shows,
-  found_shows,
-  as_directory_shows,
-  as_file_shows,
-  as_link_shows,
-  live_or_shows,
-  good_name_shows,
-  live_directory_shows,
+  name_fault_refuses,
+  find_object_shows,
+  need_place_for_shows,
+  find_directory_shows,
 )

@@ -13,3 +13,9 @@ pub mod Checked
 pub mod Leaving
 pub mod Blaming
 pub mod Shaped
+pub mod Bytes
+pub mod Shown
+pub mod Told
+pub mod Copies
+pub mod Keeping
+pub mod Listings

@@ -1,127 +1,157 @@
 -- RENAME and LINK leave the tree within its bounds.
-use Rattle.std.proofs.Common.{◌≡◌, ℕ, ◌<◌, ◌==◌, nat_le, nat_lt, ◌||◌, ◌&&◌, Bool, true, false, not, if◌then◌else◌, List, length, Option, Some, None, IfSome, is_none, option_map, Ok, refl, arith}
+use Rattle.std.proofs.Common.{◌+◌, subst, sym, ◌≡◌, ℕ, ◌<◌, ◌==◌, nat_le, ◌||◌, ◌&&◌, Bool, true, false, not}
+use Rattle.std.proofs.Common.{if◌then◌else◌, List, Option, Some, None, IfSome, is_none, option_map, Ok, refl, arith}
 use Rattle.std.proofs.lemmas.Bool.{and_parts, leb-false}
 use Rattle.nfs3_types.specs.declared.args.LinkArgs.{LinkArgs}
 use Rattle.nfs3_types.specs.declared.args.RenameArgs.{RenameArgs}
 use Rattle.nfs3_types.specs.declared.cred.Cred.{Cred}
 use Rattle.nfs3_types.specs.declared.file_type.FileType.TheVariants.{Dir}
 use Rattle.nfs3_types.specs.declared.moment.Moment.{Moment}
-use Rattle.nfs3_types.specs.declared.status.Status.TheVariants.{Acces, Exist, Inval, MLink, NameTooLong, NoEnt, NoSpc, NotDir, Rofs, Xdev}
+use Rattle.nfs3_types.specs.declared.status.Status.TheVariants.{Acces, Exist, Inval, MLink, NoEnt, NoSpc, NotDir}
+use Rattle.nfs3_types.specs.declared.status.Status.TheVariants.{Rofs, Xdev}
+use Rattle.fs_rules.specs.Answers.{tree_by}
+use Rattle.fs_rules.specs.Attributes.{given, is_directory}
+use Rattle.fs_rules.specs.Checks.{find_object, is_live}
+use Rattle.fs_rules.specs.Edits.{add_link, add_name, drop_link, drop_name, drop_node, edit_node, set_ctime, set_parent, touch}
+use Rattle.fs_rules.specs.Limits.{deepest, most_links, most_numbers}
+use Rattle.fs_rules.specs.Making.{lacks_cookies, need_free_name}
+use Rattle.fs_rules.specs.Names.{is_dots, name_fault}
+use Rattle.fs_rules.specs.Places.{Object, entry_at, fileid_at, is_snapshots_name, leads_to}
+use Rattle.fs_rules.specs.Removing.{drop_directory, has_names, may_alter, remove_file}
+use Rattle.fs_rules.specs.Renaming.{Renaming, allow_move, climb, differs, find_renaming, is_in_the_way, is_same_node, link}
+use Rattle.fs_rules.specs.Renaming.{link_plan, move_node, need_room, relink, rename, rename_plan, renew, reparents, replace}
+use Rattle.fs_rules.specs.Renaming.{replaced_by, target_at}
+use Rattle.fs_rules.specs.Rights.{may_search}
+use Rattle.fs_rules.specs.Sound.{HasBounds, IsEntryName, IsNodeWithin}
+use Rattle.fs_rules.specs.Tree.{Node, Tree}
 use Rattle.fs_rules.specs.declared.place.Place.TheVariants.{Live}
 use Rattle.fs_rules.specs.declared.plans.LinkPlan.{LinkPlan}
-use Rattle.fs_rules.specs.declared.plans.Move.{Move}
 use Rattle.fs_rules.specs.declared.plans.RenamePlan.{RenamePlan}
-use Rattle.fs_rules.specs.declared.plans.RenamePlan.TheVariants.{Same, Moved}
 use Rattle.fs_rules.specs.declared.plans.Replaced.{Replaced}
-use Rattle.fs_rules.specs.Attributes.{is_directory}
-use Rattle.fs_rules.specs.Checks.{as_directory, found, good_name, live, live_or}
-use Rattle.fs_rules.specs.Edits.{at_node, changed, drop_node, linked, naming, touched, unlinked, without_name}
-use Rattle.fs_rules.specs.Limits.{most_links, most_numbers}
-use Rattle.fs_rules.specs.Making.{free_name, lacks_cookies}
-use Rattle.fs_rules.specs.Names.{is_dots, name_fault, named}
-use Rattle.fs_rules.specs.Places.{LiveNode, is_snapshots_name, live_node}
-use Rattle.fs_rules.specs.Removing.{directory_removed, removed}
-use Rattle.fs_rules.specs.Renaming.{Directories, Linking, Renaming, differs, is_in, is_in_the_way, is_node, line_of, link, link_plan, linking, live_directories, may_rename, movable, move_of, moved, relinked, rename, rename_edit, rename_plan, renamed, renewed, reparents, replace, replaced_by, target_of}
-use Rattle.fs_rules.specs.Rights.{may_search}
-use Rattle.fs_rules.specs.Tree.{Node, Tree}
-use Rattle.fs_laws.specs.Bounds.{HasBounds, IsEntryName, IsNodeWithin}
-use Rattle.fs_laws.proofs.Passed.{ended, next_of, or_false, past, past_fault, past_some}
-use Rattle.fs_laws.proofs.MakingWithin.{free_found}
-use Rattle.fs_laws.proofs.NodesWithin.{changed_within, linked_within, naming_within, parent_within, touched_within, unlinked_within, without_name_within}
-use Rattle.fs_laws.proofs.Places.{IsPlace, live_is, live_kind}
-use Rattle.fs_laws.proofs.RemovingWithin.{directory_removed_keeps, directory_removed_within, removed_keeps, removed_within}
+use Rattle.fs_laws.proofs.MakingWithin.{leads_live, name_is_free}
+use Rattle.fs_laws.proofs.NodesWithin.{add_name_within, ctime_within, directory_is, drop_name_within, link_less_within}
+use Rattle.fs_laws.proofs.NodesWithin.{link_more_within, parent_within, touch_within}
+use Rattle.fs_laws.proofs.Passed.{ended, next_of, or_false, past, past_fault, past_some, test_passed}
+use Rattle.fs_laws.proofs.Places.{IsLive, IsPlace, live_found, live_kind, number_is, of_live, to_live}
+use Rattle.fs_laws.proofs.RemovingWithin.{drop_directory_keeps, drop_directory_within, remove_file_keeps, remove_file_within}
 use Rattle.fs_laws.proofs.SettingWithin.{done_within}
-use Rattle.fs_laws.proofs.TreesWithin.{at_node_gives, at_node_keeps, at_node_within, drop_keeps, each_node_within, edited_within, of_some}
+use Rattle.fs_laws.proofs.TreesWithin.{drop_keeps, each_node_within, edit_node_gives, edit_node_keeps, edit_node_within}
+use Rattle.fs_laws.proofs.TreesWithin.{edited_within, of_some}
 
 -- ---- what a directory needs
 
 -- a directory that can get a further name
 record IsOpen (n : Node) : Type 0 where
-  directory : n.kind ≡ Dir
-  cookies : n.next_cookie < most_numbers
+  directory : n.inode.kind ≡ Dir
+  cookies : n.inode.next_cookie < most_numbers
 
 -- a node that can get a further link
 record CanLink (n : Node) : Type 0 where
-  room : n.nlink < most_links
+  room : n.inode.nlink < most_links
 
-name_within : (name : List ℕ) (target : ℕ) (now : Moment) (fileid : ℕ) (n : Node) → IsEntryName fileid name → IsOpen n → IsNodeWithin fileid n → IsNodeWithin fileid (touched now (naming name target n))
-name_within name target now fileid n own open' h = touched_within now fileid (naming name target n) (naming_within name target fileid n open'.directory own open'.cookies h)
+abbrev IsDir : Node → Type 0
+IsDir n = n.inode.kind ≡ Dir
+
+name_within : (name : List ℕ) (target : ℕ) (now : Moment) (fileid : ℕ) (n : Node) → IsEntryName fileid name → IsOpen n
+    → IsNodeWithin fileid n → IsNodeWithin fileid (touch now (add_name name target n))
+name_within name target now fileid n own open' h =
+    touch_within now fileid (add_name name target n) (add_name_within name target fileid n open'.directory own open'.cookies h)
 
 -- ---- LINK
 
-link_edit : (t : Tree) (file directory : LiveNode) (name : List ℕ) (now : Moment) → t.nodes file.fileid ≡ Some file.node → file.node.nlink < most_links → IsPlace t directory name → IsEntryName directory.fileid name → directory.node.next_cookie < most_numbers → HasBounds t
-    → HasBounds (at_node directory.fileid (λ n. touched now (naming name file.fileid n)) (at_node file.fileid (λ n. changed now (linked n)) t))
-link_edit t file directory name now there room at own cookies h =
-    at_node_within IsOpen (at_node file.fileid (λ n. changed now (linked n)) t) directory.fileid (λ n. touched now (naming name file.fileid n))
-    (λ n. name_within name file.fileid now directory.fileid n own)
-    (at_node_keeps IsOpen t file.fileid directory.fileid (λ n. changed now (linked n)) (λ n k. record { directory = k.directory; cookies = k.cookies }) (of_some IsOpen (t.nodes directory.fileid) directory.node at.stands (record { directory = at.kind; cookies = cookies })))
-    (edited_within t file.fileid file.node (λ n. changed now (linked n)) there (λ k. changed_within now file.fileid (linked file.node) (linked_within file.fileid file.node room k)) h)
+abbrev linked_tree : Tree → ℕ → ℕ → List ℕ → Moment → Tree
+linked_tree t file directory name now =
+    edit_node directory (λ n. touch now (add_name name file n)) (edit_node file (λ n. set_ctime now (add_link n)) t)
 
-record IsLinking (t : Tree) (name : List ℕ) (l : Linking) : Type 0 where
-  file : t.nodes l.file.fileid ≡ Some l.file.node
-  directory : IsPlace t l.directory name
+link_edit : (t : Tree) (file directory : ℕ) (m n : Node) (name : List ℕ) (now : Moment) → t.nodes file ≡ Some m
+    → m.inode.nlink < most_links → t.nodes directory ≡ Some n → IsOpen n → IsEntryName directory name → HasBounds t
+    → HasBounds (linked_tree t file directory name now)
+link_edit t file directory m n name now there room at open' own h =
+    edit_node_within IsOpen (edit_node file (λ n. set_ctime now (add_link n)) t) directory (λ n. touch now (add_name name file n))
+    (λ n. name_within name file now directory n own)
+    (edit_node_keeps IsOpen t file directory (λ n. set_ctime now (add_link n))
+    (λ n k. record { directory = k.directory; cookies = k.cookies })
+    (of_some IsOpen (t.nodes directory) n at open'))
+    (edited_within t file m (λ n. set_ctime now (add_link n)) there
+    (λ k. ctime_within now file (add_link m) (link_more_within file m room k)) h)
 
-linking_found : (t : Tree) (a : LinkArgs (List ℕ)) (l : Linking) → linking t a ≡ Ok l → IsLinking t a.link.name l
-unfolding linking as_directory good_name
-linking_found t a l e =
-    next_of (found t a.file) _ l e (λ first one e.
-    next_of (found t a.link.directory) _ l e (λ second two e.
-    past (not (is_directory second.node.kind)) NotDir _ l e (λ kind e.
-    next_of (live second) _ l e (λ directory three e.
-    next_of (live_or Xdev first) _ l e (λ file four e.
-    past_fault (name_fault a.link.name) _ l e (λ good e.
-    let alive = live_is t a.link.directory second Rofs directory two three in
-    ended (IsLinking t a.link.name) (record { file = file; directory = directory }) l e (record {
-      file = (live_is t a.file first Xdev file one four).stands;
-      directory = record { stands = alive.stands; kind = live_kind t second directory alive kind; good = good };
-    })))))))
-
-link_done : (t : Tree) (cred : Cred) (a : LinkArgs (List ℕ)) (now : Moment) (plan : LinkPlan) → HasBounds t → link_plan t cred a ≡ Ok plan → HasBounds (at_node plan.directory (λ n. touched now (naming a.link.name plan.file n)) (at_node plan.file (λ n. changed now (linked n)) t))
+link_done : (t : Tree) (cred : Cred) (a : LinkArgs (List ℕ)) (now : Moment) (plan : LinkPlan) → HasBounds t
+    → link_plan t cred a ≡ Ok plan
+    → HasBounds (linked_tree t plan.file plan.directory a.link.name now)
 unfolding link_plan
 link_done t cred a now plan h e =
-    next_of (linking t a) _ plan e (λ l is e.
-    past (is_directory l.file.node.kind) Inval _ plan e (λ file e.
-    past (not (may_search cred l.directory.node)) Acces _ plan e (λ may e.
-    next_of (free_name cred l.directory a.link.name) _ plan e (λ u free e.
-    past (nat_le most_links l.file.node.nlink) MLink _ plan e (λ room e.
-    past (lacks_cookies l.directory.node) NoSpc _ plan e (λ cookies e.
-    let here = linking_found t a l is in
-    ended (λ (p : LinkPlan). HasBounds (at_node p.directory (λ n. touched now (naming a.link.name p.file n)) (at_node p.file (λ n. changed now (linked n)) t))) (record { file = l.file.fileid; directory = l.directory.fileid }) plan e
-    (link_edit t l.file l.directory a.link.name now here.file (leb-false most_links l.file.node.nlink room) here.directory (free_found t cred l.directory a.link.name u here.directory free) (leb-false most_numbers l.directory.node.next_cookie cookies) h)))))))
+    next_of (find_object t a.file) _ plan e (λ file one e.
+    next_of (find_object t a.link.directory) _ plan e (λ directory two e.
+    past (not (is_directory directory.inode.kind)) NotDir _ plan e (λ kind e.
+    past (not (is_live directory.place)) Rofs _ plan e (λ alive e.
+    past (not (is_live file.place)) Xdev _ plan e (λ lives e.
+    past_fault (name_fault a.link.name) _ plan e (λ good e.
+    past (is_directory file.inode.kind) Inval _ plan e (λ leaf e.
+    past (not (may_search cred directory.inode)) Acces _ plan e (λ may e.
+    next_of (need_free_name t cred directory a.link.name) _ plan e (λ u free e.
+    past (nat_le most_links file.inode.nlink) MLink _ plan e (λ room e.
+    past (lacks_cookies directory.inode) NoSpc _ plan e (λ cookies e.
+    live_found t a.file file one lives (λ f m of_file.
+    live_found t a.link.directory directory two alive (λ d n of_directory.
+    let at : IsPlace t d n directory a.link.name =
+    record { live = of_directory; kind = live_kind t d n directory of_directory kind; good = good } in
+    ended (λ (p : LinkPlan). HasBounds (linked_tree t p.file p.directory a.link.name now))
+    (record { file = fileid_at file.place; directory = fileid_at directory.place }) plan e
+    (of_live (λ x. HasBounds (linked_tree t (fileid_at x.place) (fileid_at directory.place) a.link.name now)) of_file
+    (of_live (λ x. HasBounds (linked_tree t f (fileid_at x.place) a.link.name now)) of_directory
+    (link_edit t f d m n a.link.name now of_file.stands
+    (leb-false most_links m.inode.nlink (to_live (λ x. nat_le most_links x.inode.nlink ≡ false) of_file room)) of_directory.stands
+    (record {
+      directory = at.kind;
+      cookies = leb-false most_numbers n.inode.next_cookie (to_live (λ x. lacks_cookies x.inode ≡ false) of_directory cookies);
+    })
+    (name_is_free t cred d n directory a.link.name u at free) h))))))))))))))))
 
-pub link_within : (t : Tree) (cred : Cred) (a : LinkArgs (List ℕ)) (now : Moment) → HasBounds t → HasBounds (link t cred a now).tree
+pub link_within : (t : Tree) (cred : Cred) (a : LinkArgs (List ℕ)) (now : Moment) → HasBounds t
+    → HasBounds (tree_by t (link t cred a now))
 unfolding link
-link_within t cred a now h = done_within 15 t (link_plan t cred a) _ _ h (λ plan. link_done t cred a now plan h)
+link_within t cred a now h = done_within t (link_plan t cred a) _ h (λ plan. link_done t cred a now plan h)
 
 -- ---- what has the new name goes
 
-replaced_within : (b : Bool) (now : Moment) (to : ℕ) (name : List ℕ) (fileid : ℕ) (t : Tree) → HasBounds t → HasBounds (if b then directory_removed now to name fileid t else removed now to name fileid t)
-replaced_within true now to name fileid t h = directory_removed_within now to name fileid t h
-replaced_within false now to name fileid t h = removed_within now to name fileid t h
+replaced_within : (b : Bool) (now : Moment) (to : ℕ) (name : List ℕ) (fileid : ℕ) (t : Tree) → HasBounds t
+    → HasBounds (if b then drop_directory now to name fileid t else remove_file now to name fileid t)
+replaced_within true now to name fileid t h = drop_directory_within now to name fileid t h
+replaced_within false now to name fileid t h = remove_file_within now to name fileid t h
 
-replace_within : (now : Moment) (to : ℕ) (name : List ℕ) (r : Option Replaced) (t : Tree) → HasBounds t → HasBounds (replace now to name r t)
+replace_within : (now : Moment) (to : ℕ) (name : List ℕ) (r : Option Replaced) (t : Tree) → HasBounds t
+    → HasBounds (replace now to name r t)
 replace_within now to name (Some r) t h = replaced_within r.is_directory now to name r.fileid t h
 replace_within now to name None t h = h
 
-replaced_open : (b : Bool) (now : Moment) (to : ℕ) (name : List ℕ) (fileid : ℕ) (t : Tree) → IfSome (t.nodes to) IsOpen → IfSome ((if b then directory_removed now to name fileid t else removed now to name fileid t).nodes to) IsOpen
-replaced_open true now to name fileid t h = directory_removed_keeps IsOpen now to name fileid to t (λ n k. record { directory = k.directory; cookies = k.cookies }) h
-replaced_open false now to name fileid t h = removed_keeps IsOpen now to name fileid to t (λ n k. record { directory = k.directory; cookies = k.cookies }) (λ n k. record { directory = k.directory; cookies = k.cookies }) h
+replaced_open : (b : Bool) (now : Moment) (to : ℕ) (name : List ℕ) (fileid : ℕ) (t : Tree) → IfSome (t.nodes to) IsOpen
+    → IfSome ((if b then drop_directory now to name fileid t else remove_file now to name fileid t).nodes to) IsOpen
+replaced_open true now to name fileid t h =
+    drop_directory_keeps IsOpen now to name fileid to t (λ n k. record { directory = k.directory; cookies = k.cookies }) h
+replaced_open false now to name fileid t h =
+    remove_file_keeps IsOpen now to name fileid to t (λ n k. record { directory = k.directory; cookies = k.cookies })
+    (λ n k. record { directory = k.directory; cookies = k.cookies }) h
 
-replace_open : (now : Moment) (to : ℕ) (name : List ℕ) (r : Option Replaced) (t : Tree) → IfSome (t.nodes to) IsOpen → IfSome ((replace now to name r t).nodes to) IsOpen
+replace_open : (now : Moment) (to : ℕ) (name : List ℕ) (r : Option Replaced) (t : Tree) → IfSome (t.nodes to) IsOpen
+    → IfSome ((replace now to name r t).nodes to) IsOpen
 replace_open now to name (Some r) t h = replaced_open r.is_directory now to name r.fileid t h
 replace_open now to name None t h = h
 
 -- a directory that goes leaves a link in its parent
-one_less : (now : Moment) (name : List ℕ) (fileid : ℕ) (n : Node) → IsNodeWithin fileid n → CanLink (touched now (unlinked (without_name name n)))
+one_less : (now : Moment) (name : List ℕ) (fileid : ℕ) (n : Node) → IsNodeWithin fileid n
+    → CanLink (touch now (drop_link (drop_name name n)))
 unfolding most_links
 one_less now name fileid n h = record { room = omega (arith, h.links) }
 
-directory_room : (now : Moment) (to : ℕ) (name : List ℕ) (fileid : ℕ) (t : Tree) → HasBounds t → IfSome ((directory_removed now to name fileid t).nodes to) CanLink
-unfolding directory_removed
+directory_room : (now : Moment) (to : ℕ) (name : List ℕ) (fileid : ℕ) (t : Tree) → HasBounds t
+    → IfSome ((drop_directory now to name fileid t).nodes to) CanLink
+unfolding drop_directory
 directory_room now to name fileid t h =
-    at_node_gives (IsNodeWithin to) CanLink (drop_node fileid t) to (λ n. touched now (unlinked (without_name name n))) (one_less now name to) (drop_keeps (IsNodeWithin to) t fileid to (h.live.each to))
+    edit_node_gives (IsNodeWithin to) CanLink (drop_node fileid t) to (λ n. touch now (drop_link (drop_name name n)))
+    (one_less now name to) (drop_keeps (IsNodeWithin to) t fileid to (h.live.each to))
 
-replaced_room : (b : Bool) (now : Moment) (to : ℕ) (name : List ℕ) (fileid : ℕ) (t : Tree) → b ≡ true → HasBounds t → IfSome ((if b then directory_removed now to name fileid t else removed now to name fileid t).nodes to) CanLink
+replaced_room : (b : Bool) (now : Moment) (to : ℕ) (name : List ℕ) (fileid : ℕ) (t : Tree) → b ≡ true → HasBounds t
+    → IfSome ((if b then drop_directory now to name fileid t else remove_file now to name fileid t).nodes to) CanLink
 replaced_room true now to name fileid t e h = directory_room now to name fileid t h
 replaced_room false now to name fileid t e h = absurd cc
 
@@ -135,104 +165,200 @@ same_kinds true b e k = refl
 same_kinds false b e k = absurd cc
 
 -- where a directory gets another parent, that has room for its link
-room_left : (now : Moment) (t : Tree) (to : LiveNode) (name : List ℕ) (source : Node) (moves : Bool) (target : Option LiveNode) → moves ≡ true → is_directory source.kind ≡ true → (moves && is_none target && nat_le most_links to.node.nlink) ≡ false → is_in_the_way source target ≡ false → t.nodes to.fileid ≡ Some to.node → HasBounds t → IfSome ((replace now to.fileid name (option_map replaced_by target) t).nodes to.fileid) CanLink
-room_left now t to name source moves (Some l) on directory links way there h =
-    replaced_room (is_directory l.node.kind) now to.fileid name l.fileid t (same_kinds (is_directory l.node.kind) (is_directory source.kind) (or_false (differs (is_directory l.node.kind) (is_directory source.kind)) (is_directory l.node.kind && nat_lt 0 (length l.node.names)) way).0 directory) h
-room_left now t to name source moves None on directory links way there h =
-    of_some CanLink (t.nodes to.fileid) to.node there (record { room = leb-false most_links to.node.nlink (and_rest moves true (nat_le most_links to.node.nlink) links on refl) })
+room_left : (now : Moment) (t : Tree) (to : ℕ) (n : Node) (name : List ℕ) (source : Object) (moves : Bool)
+    (target : Option Object)
+    → moves ≡ true → is_directory source.inode.kind ≡ true → (moves && is_none target && nat_le most_links n.inode.nlink) ≡ false
+    → given target (is_in_the_way t source) ≡ false → t.nodes to ≡ Some n → HasBounds t
+    → IfSome ((replace now to name (option_map replaced_by target) t).nodes to) CanLink
+room_left now t to n name source moves (Some o) on directory links way there h =
+    let one = differs (is_directory o.inode.kind) (is_directory source.inode.kind) in
+    replaced_room (is_directory o.inode.kind) now to name (fileid_at o.place) t
+    (same_kinds (is_directory o.inode.kind) (is_directory source.inode.kind)
+    (or_false one (is_directory o.inode.kind && has_names t o.place) way).0 directory) h
+room_left now t to n name source moves None on directory links way there h =
+    of_some CanLink (t.nodes to) n there
+    (record { room = leb-false most_links n.inode.nlink (and_rest moves true (nat_le most_links n.inode.nlink) links on refl) })
 
 -- ---- the links of the parents
 
-parents_within : (from to : ℕ) (t : Tree) → IfSome (t.nodes to) CanLink → HasBounds t → HasBounds (at_node to linked (at_node from unlinked t))
+parents_within : (from to : ℕ) (t : Tree) → IfSome (t.nodes to) CanLink → HasBounds t
+    → HasBounds (edit_node to add_link (edit_node from drop_link t))
 parents_within from to t room h =
-    at_node_within CanLink (at_node from unlinked t) to linked (λ n k. linked_within to n k.room)
-    (at_node_keeps CanLink t from to unlinked (λ n k. record { room = omega (arith, k.room) }) room)
-    (each_node_within t from unlinked (unlinked_within from) h)
+    edit_node_within CanLink (edit_node from drop_link t) to add_link (λ n k. link_more_within to n k.room)
+    (edit_node_keeps CanLink t from to drop_link (λ n k. record { room = omega (arith, k.room) }) room)
+    (each_node_within t from drop_link (link_less_within from) h)
 
-relinked_by : (moves : Bool) (from to : ℕ) (t : Tree) → (moves ≡ true → IfSome (t.nodes to) CanLink) → HasBounds t → HasBounds (if moves then at_node to linked (at_node from unlinked t) else t)
-relinked_by true from to t room h = parents_within from to t (room refl) h
-relinked_by false from to t room h = h
+relink_by : (moves : Bool) (from to : ℕ) (t : Tree) → (moves ≡ true → IfSome (t.nodes to) CanLink) → HasBounds t
+    → HasBounds (if moves then edit_node to add_link (edit_node from drop_link t) else t)
+relink_by true from to t room h = parents_within from to t (room refl) h
+relink_by false from to t room h = h
 
-open_by : (moves : Bool) (from to : ℕ) (t : Tree) → IfSome (t.nodes to) IsOpen → IfSome ((if moves then at_node to linked (at_node from unlinked t) else t).nodes to) IsOpen
-open_by true from to t h =
-    at_node_keeps IsOpen (at_node from unlinked t) to to linked (λ n k. record { directory = k.directory; cookies = k.cookies }) (at_node_keeps IsOpen t from to unlinked (λ n k. record { directory = k.directory; cookies = k.cookies }) h)
-open_by false from to t h = h
+-- what relinking leaves as it was
+keeps_by : (P : Node → Type 0) (moves : Bool) (from to q : ℕ) (t : Tree) → ((n : Node) → P n → P (add_link n))
+    → ((n : Node) → P n → P (drop_link n))
+    → IfSome (t.nodes q) P → IfSome ((if moves then edit_node to add_link (edit_node from drop_link t) else t).nodes q) P
+keeps_by P true from to q t more less h =
+    edit_node_keeps P (edit_node from drop_link t) to q add_link more (edit_node_keeps P t from q drop_link less h)
+keeps_by P false from to q t more less h = h
+
+-- what replacing leaves as it was, of a node that is not the one that goes
+replaced_dir : (b : Bool) (now : Moment) (to : ℕ) (name : List ℕ) (fileid q : ℕ) (t : Tree) → IfSome (t.nodes q) IsDir
+    → IfSome ((if b then drop_directory now to name fileid t else remove_file now to name fileid t).nodes q) IsDir
+replaced_dir true now to name fileid q t h = drop_directory_keeps IsDir now to name fileid q t (λ n k. k) h
+replaced_dir false now to name fileid q t h = remove_file_keeps IsDir now to name fileid q t (λ n k. k) (λ n k. k) h
+
+replace_dir : (now : Moment) (to : ℕ) (name : List ℕ) (r : Option Replaced) (q : ℕ) (t : Tree) → IfSome (t.nodes q) IsDir
+    → IfSome ((replace now to name r t).nodes q) IsDir
+replace_dir now to name (Some r) q t h = replaced_dir r.is_directory now to name r.fileid q t h
+replace_dir now to name None q t h = h
 
 -- ---- the move
 
-renewed_by : (moves : Bool) (to : ℕ) (now : Moment) (fileid : ℕ) (n : Node) → IsNodeWithin fileid n → IsNodeWithin fileid (changed now (if moves then record n { parent = to } else n))
-renewed_by true to now fileid n h = changed_within now fileid (record n { parent = to }) (parent_within to fileid n h)
-renewed_by false to now fileid n h = changed_within now fileid n h
+renew_by : (moves : Bool) (to : ℕ) (now : Moment) (fileid : ℕ) (n : Node) → (moves ≡ true → IsDir n) → IsNodeWithin fileid n
+    → IsNodeWithin fileid (set_ctime now (if moves then set_parent to n else n))
+renew_by true to now fileid n is h = ctime_within now fileid (set_parent to n) (parent_within to fileid n (is refl) h)
+renew_by false to now fileid n is h = ctime_within now fileid n h
 
-moved_within : (now : Moment) (a : RenameArgs (List ℕ)) (m : Move) (t : Tree) → IsEntryName m.to a.to.name → IfSome (t.nodes m.to) IsOpen → (m.reparents ≡ true → IfSome ((replace now m.to a.to.name m.replaced t).nodes m.to) CanLink) → HasBounds t → HasBounds (moved now a m t)
-unfolding moved
-moved_within now a m t own there room h =
-    let one = replace now m.to a.to.name m.replaced t in
-    let two = relinked m one in
-    let without = λ (n : Node). touched now (without_name a.from.name n) in
-    let three = at_node m.from without two in
-    let kept : HasBounds three = each_node_within two m.from without (λ n k. touched_within now m.from (without_name a.from.name n) (without_name_within a.from.name m.from n k)) (relinked_by m.reparents m.from m.to one room (replace_within now m.to a.to.name m.replaced t h)) in
-    let still : IfSome (three.nodes m.to) IsOpen = at_node_keeps IsOpen two m.from m.to without (λ n k. record { directory = k.directory; cookies = k.cookies }) (open_by m.reparents m.from m.to one (replace_open now m.to a.to.name m.replaced t there)) in
-    each_node_within (at_node m.to (λ n. touched now (naming a.to.name m.fileid n)) three) m.fileid (renewed m now) (renewed_by m.reparents m.to now m.fileid)
-    (at_node_within IsOpen three m.to (λ n. touched now (naming a.to.name m.fileid n)) (λ n. name_within a.to.name m.fileid now m.to n own) still kept)
+if_moves : (moves : Bool) (o : Option Node) → (moves ≡ true → IfSome o IsDir) → IfSome o (λ n. moves ≡ true → IsDir n)
+if_moves moves (Some n) h = h
+if_moves moves None h = tt
+
+move_within : (now : Moment) (a : RenameArgs (List ℕ)) (p : RenamePlan) (t : Tree) → IsEntryName p.to a.to.name
+    → IfSome (t.nodes p.to) IsOpen
+    → (p.reparents ≡ true → IfSome (t.nodes p.fileid) IsDir)
+    → (p.reparents ≡ true → IfSome ((replace now p.to a.to.name p.replaced t).nodes p.to) CanLink) → HasBounds t
+    → HasBounds (move_node now a p t)
+unfolding move_node
+move_within now a p t own there directory room h =
+    let one = replace now p.to a.to.name p.replaced t in
+    let two = relink p one in
+    let without = λ (n : Node). touch now (drop_name a.from.name n) in
+    let more = λ (n : Node). touch now (add_name a.to.name p.fileid n) in
+    let three = edit_node p.from without two in
+    let four = edit_node p.to more three in
+    let kept : HasBounds three = each_node_within two p.from without
+    (λ n k. touch_within now p.from (drop_name a.from.name n) (drop_name_within a.from.name p.from n k))
+    (relink_by p.reparents p.from p.to one room (replace_within now p.to a.to.name p.replaced t h)) in
+    let still : IfSome (three.nodes p.to) IsOpen = edit_node_keeps IsOpen two p.from p.to without
+    (λ n k. record { directory = k.directory; cookies = k.cookies })
+    (keeps_by IsOpen p.reparents p.from p.to p.to one (λ n k. record { directory = k.directory; cookies = k.cookies })
+    (λ n k. record { directory = k.directory; cookies = k.cookies }) (replace_open now p.to a.to.name p.replaced t there)) in
+    let dir : p.reparents ≡ true → IfSome (four.nodes p.fileid) IsDir = λ on.
+    edit_node_keeps IsDir three p.to p.fileid more (λ n k. k) (edit_node_keeps IsDir two p.from p.fileid without (λ n k. k)
+    (keeps_by IsDir p.reparents p.from p.to p.fileid one (λ n k. k) (λ n k. k)
+    (replace_dir now p.to a.to.name p.replaced p.fileid t (directory on)))) in
+    edit_node_within (λ n. p.reparents ≡ true → IsDir n) four p.fileid (renew p now) (renew_by p.reparents p.to now p.fileid)
+    (if_moves p.reparents (four.nodes p.fileid) dir)
+    (edit_node_within IsOpen three p.to more (λ n. name_within a.to.name p.fileid now p.to n own) still kept)
 
 -- ---- RENAME
-
-movable_done : (t : Tree) (a : RenameArgs (List ℕ)) (now : Moment) (r : Renaming) (plan : RenamePlan) → IsPlace t r.to a.to.name → IsEntryName r.to.fileid a.to.name → HasBounds t → movable t r ≡ Ok plan → HasBounds (rename_edit t a now plan)
-unfolding movable
-movable_done t a now r plan at own h e =
-    past (reparents r && not (is_in 1 (line_of t r.to.fileid))) NameTooLong _ plan e (λ deep e.
-    past (reparents r && is_in r.source.fileid (line_of t r.to.fileid)) Inval _ plan e (λ below e.
-    past (is_in_the_way r.source.node r.target) Exist _ plan e (λ way e.
-    past (reparents r && is_none r.target && nat_le most_links r.to.node.nlink) MLink _ plan e (λ links e.
-    past (lacks_cookies r.to.node) NoSpc _ plan e (λ cookies e.
-    ended (λ (p : RenamePlan). HasBounds (rename_edit t a now p)) (Moved (move_of r)) plan e
-    (moved_within now a (move_of r) t own (of_some IsOpen (t.nodes r.to.fileid) r.to.node at.stands (record { directory = at.kind; cookies = leb-false most_numbers r.to.node.next_cookie cookies }))
-    (λ on. room_left now t r.to a.to.name r.source.node (reparents r) r.target on (and_parts (is_directory r.source.node.kind) (not (r.from.fileid == r.to.fileid)) on).0 links way at.stands h) h))))))
-
-renamed_by : (same : Bool) (t : Tree) (a : RenameArgs (List ℕ)) (now : Moment) (r : Renaming) (plan : RenamePlan) → IsPlace t r.to a.to.name → IsEntryName r.to.fileid a.to.name → HasBounds t → (if same then Ok (Same r.from.fileid r.to.fileid) else movable t r) ≡ Ok plan → HasBounds (rename_edit t a now plan)
-renamed_by true t a now r plan at own h e = ended (λ (p : RenamePlan). HasBounds (rename_edit t a now p)) (Same r.from.fileid r.to.fileid) plan e h
-renamed_by false t a now r plan at own h e = movable_done t a now r plan at own h e
-
-directories_found : (t : Tree) (a : RenameArgs (List ℕ)) (d : Directories) → live_directories t a ≡ Ok d → IsPlace t d.to a.to.name
-unfolding live_directories as_directory good_name
-directories_found t a d e =
-    next_of (found t a.from.directory) _ d e (λ first one e.
-    next_of (found t a.to.directory) _ d e (λ second two e.
-    past (not (is_directory first.node.kind)) NotDir _ d e (λ kind e.
-    past (not (is_directory second.node.kind)) NotDir _ d e (λ kind e.
-    next_of (live first) _ d e (λ from three e.
-    next_of (live second) _ d e (λ to four e.
-    past_fault (name_fault a.from.name) _ d e (λ good e.
-    past_fault (name_fault a.to.name) _ d e (λ good e.
-    let alive = live_is t a.to.directory second Rofs to two four in
-    ended (λ (x : Directories). IsPlace t x.to a.to.name) (record { from = from; to = to }) d e (record { stands = alive.stands; kind = live_kind t second to alive kind; good = good })))))))))
 
 or_both : (a b : Bool) → a ≡ false → b ≡ false → (a || b) ≡ false
 or_both true b e k = absurd cc
 or_both false b e k = k
 
-name_free : (cred : Cred) (d : Directories) (a : RenameArgs (List ℕ)) (u : Unit {0}) → name_fault a.to.name ≡ None → may_rename cred d a ≡ Ok u → IsEntryName d.to.fileid a.to.name
-unfolding may_rename
-name_free cred d a u good e =
-    past (is_dots a.from.name || is_dots a.to.name) Inval _ u e (λ dots e.
-    past (is_snapshots_name (Live d.from.fileid) a.from.name || is_snapshots_name (Live d.to.fileid) a.to.name) Acces _ u e (λ snapshots e.
-    record {
-      good = good;
-      free = or_both (is_dots a.to.name) (is_snapshots_name (Live d.to.fileid) a.to.name) (or_false (is_dots a.from.name) (is_dots a.to.name) dots).1 (or_false (is_snapshots_name (Live d.from.fileid) a.from.name) (is_snapshots_name (Live d.to.fileid) a.to.name) snapshots).1;
-    }))
+-- what has been found: the directory of the new name, the name itself, and the node that gets it
+record IsFound (t : Tree) (a : RenameArgs (List ℕ)) (r : Renaming) : Type 0 where
+  directory : ℕ
+  node : Node
+  at : IsPlace t directory node r.to a.to.name
+  own : IsEntryName directory a.to.name
+  fileid : ℕ
+  moved : Node
+  source : IsLive t fileid moved r.source
 
-rename_done : (t : Tree) (cred : Cred) (a : RenameArgs (List ℕ)) (now : Moment) (plan : RenamePlan) → HasBounds t → rename_plan t cred a ≡ Ok plan → HasBounds (rename_edit t a now plan)
-unfolding rename_plan renamed
+found : (t : Tree) (cred : Cred) (a : RenameArgs (List ℕ)) (r : Renaming) → find_renaming t cred a ≡ Ok r → IsFound t a r
+unfolding find_renaming
+found t cred a r e =
+    next_of (find_object t a.from.directory) _ r e (λ from one e.
+    next_of (find_object t a.to.directory) _ r e (λ to two e.
+    past (not (is_directory from.inode.kind)) NotDir _ r e (λ three e.
+    past (not (is_directory to.inode.kind)) NotDir _ r e (λ kind e.
+    past (not (is_live from.place)) Rofs _ r e (λ four e.
+    past (not (is_live to.place)) Rofs _ r e (λ alive e.
+    past_fault (name_fault a.from.name) _ r e (λ five e.
+    past_fault (name_fault a.to.name) _ r e (λ good e.
+    past (is_dots a.from.name || is_dots a.to.name) Inval _ r e (λ dots e.
+    past (is_snapshots_name from.place a.from.name || is_snapshots_name to.place a.to.name) Acces _ r e (λ snapshots e.
+    past (not (may_alter cred from.inode)) Acces _ r e (λ six e.
+    past (not (may_alter cred to.inode)) Acces _ r e (λ seven e.
+    past_some (entry_at t from.place a.from.name) NoEnt _ r e (λ entry there e.
+    past_some (leads_to t (Live entry.fileid)) NoEnt _ r e (λ source leads e.
+    live_found t a.to.directory to two alive (λ directory n is.
+    leads_live t entry.fileid source leads (λ m of_source.
+    let free = to_live (λ x. is_snapshots_name x.place a.to.name ≡ false) is
+    (or_false (is_snapshots_name from.place a.from.name) (is_snapshots_name to.place a.to.name) snapshots).1 in
+    ended (IsFound t a) (record { from = from; to = to; source = source; target = target_at t (entry_at t to.place a.to.name) })
+    r e (record {
+      directory = directory;
+      node = n;
+      at = record { live = is; kind = live_kind t directory n to is kind; good = good };
+      own = record {
+        good = good;
+        free = or_both (is_dots a.to.name) (is_snapshots_name (Live directory) a.to.name)
+            (or_false (is_dots a.from.name) (is_dots a.to.name) dots).1 free;
+      };
+      fileid = entry.fileid;
+      moved = m;
+      source = of_source;
+    })))))))))))))))))
+
+-- the plan of what was found
+abbrev plan_of : Renaming → RenamePlan
+plan_of r = record {
+  from = fileid_at r.from.place;
+  to = fileid_at r.to.place;
+  fileid = fileid_at r.source.place;
+  is_same = is_same_node r;
+  reparents = reparents r;
+  replaced = option_map replaced_by r.target;
+}
+
+move_done : (t : Tree) (a : RenameArgs (List ℕ)) (now : Moment) (r : Renaming) (u : Unit {0}) → IsFound t a r → HasBounds t
+    → need_room t r ≡ Ok u → HasBounds (move_node now a (plan_of r) t)
+unfolding need_room
+move_done t a now r u is h e =
+    next_of (if reparents r then allow_move (climb t.nodes (fileid_at r.source.place) (deepest + 1) (fileid_at r.to.place)) else
+    Ok tt) _ u e (λ v way e.
+    past (given r.target (is_in_the_way t r.source)) Exist _ u e (λ free e.
+    past (reparents r && is_none r.target && nat_le most_links r.to.inode.nlink) MLink _ u e (λ links e.
+    let cookies = test_passed (lacks_cookies r.to.inode) NoSpc u e in
+    let to = number_is is.at.live in
+    let open' : IsOpen is.node = record {
+      directory = is.at.kind;
+      cookies = leb-false most_numbers is.node.inode.next_cookie (to_live (λ x. lacks_cookies x.inode ≡ false) is.at.live
+          cookies);
+    } in
+    let kind = λ (on : reparents r ≡ true).
+    (and_parts (is_directory r.source.inode.kind) (not (fileid_at r.from.place == fileid_at r.to.place)) on).0 in
+    move_within now a (plan_of r) t
+    (subst (λ (x : ℕ). IsEntryName x a.to.name) (sym to) is.own)
+    (subst (λ (x : ℕ). IfSome (t.nodes x) IsOpen) (sym to) (of_some IsOpen (t.nodes is.directory) is.node is.at.live.stands
+    open'))
+    (λ on. subst (λ (x : ℕ). IfSome (t.nodes x) IsDir) (sym (number_is is.source))
+    (of_some IsDir (t.nodes is.fileid) is.moved is.source.stands
+    (directory_is is.moved.inode.kind (to_live (λ x. is_directory x.inode.kind ≡ true) is.source (kind on)))))
+    (λ on. subst (λ (x : ℕ). IfSome ((replace now x a.to.name (option_map replaced_by r.target) t).nodes x) CanLink) (sym to)
+    (room_left now t is.directory is.node a.to.name r.source (reparents r) r.target on (kind on)
+    (to_live (λ x. (reparents r && is_none r.target && nat_le most_links x.inode.nlink) ≡ false) is.at.live links) free
+    is.at.live.stands h)) h)))
+
+same_or_moved : (same : Bool) (t : Tree) (a : RenameArgs (List ℕ)) (now : Moment) (r : Renaming) (u : Unit {0}) → IsFound t a r
+    → HasBounds t
+    → (if same then Ok tt else need_room t r) ≡ Ok u → HasBounds (if same then t else move_node now a (plan_of r) t)
+same_or_moved true t a now r u is h e = h
+same_or_moved false t a now r u is h e = move_done t a now r u is h e
+
+rename_done : (t : Tree) (cred : Cred) (a : RenameArgs (List ℕ)) (now : Moment) (plan : RenamePlan) → HasBounds t
+    → rename_plan t cred a ≡ Ok plan → HasBounds (if plan.is_same then t else move_node now a plan t)
+unfolding rename_plan
 rename_done t cred a now plan h e =
-    next_of (live_directories t a) _ plan e (λ d is e.
-    next_of (may_rename cred d a) _ plan e (λ u may e.
-    past_some (named a.from.name d.from.node) NoEnt _ plan e (λ name there e.
-    past_some (live_node t name.fileid) NoEnt _ plan e (λ source alive e.
-    let at = directories_found t a d is in
-    let target = target_of t (named a.to.name d.to.node) in
-    renamed_by (is_node source.fileid target) t a now (record { from = d.from; to = d.to; source = source; target = target }) plan at (name_free cred d a u at.good may) h e))))
+    next_of (find_renaming t cred a) _ plan e (λ r is e.
+    next_of (if is_same_node r then Ok tt else need_room t r) _ plan e (λ u room e.
+    ended (λ (p : RenamePlan). HasBounds (if p.is_same then t else move_node now a p t)) (plan_of r) plan e
+    (same_or_moved (is_same_node r) t a now r u (found t cred a r is) h room)))
 
-pub rename_within : (t : Tree) (cred : Cred) (a : RenameArgs (List ℕ)) (now : Moment) → HasBounds t → HasBounds (rename t cred a now).tree
+pub rename_within : (t : Tree) (cred : Cred) (a : RenameArgs (List ℕ)) (now : Moment) → HasBounds t
+    → HasBounds (tree_by t (rename t cred a now))
 unfolding rename
-rename_within t cred a now h = done_within 14 t (rename_plan t cred a) _ _ h (λ plan. rename_done t cred a now plan h)
+rename_within t cred a now h = done_within t (rename_plan t cred a) _ h (λ plan. rename_done t cred a now plan h)

@@ -4,9 +4,8 @@ ghost use Rattle.std.specs.Prelude.{◌≡◌, ◌≢◌, false};
 ghost use Rattle.nfs3_fits.specs.Shape.{HasShape};
 ghost use Rattle.nfs3_types.specs.Replies.{is_ok};
 ghost use Rattle.nfs3_types.specs.declared.status.Status.TheVariants.{Jukebox, ServerFault};
-ghost use Rattle.fs_laws.specs.Bounds.{HasBounds};
-ghost use Rattle.fs_laws.specs.Changing.{is_changing};
-ghost use Rattle.fs_rules.specs.Answers.{Asked, after, answer};
+ghost use Rattle.fs_rules.specs.Sound.{HasBounds};
+ghost use Rattle.fs_rules.specs.Answers.{Asked, after, answer, is_changing};
 ghost use Rattle.fs_rules.specs.Tree.{Tree};
 
 /// A failing call leaves the tree as it was.

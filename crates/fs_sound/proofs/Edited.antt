@@ -1,7 +1,7 @@
 -- Nodes where one is another now.
 use Rattle.std.proofs.Common.{◌≡◌, ℕ, Bool, if◌then◌else◌, Option, Some, None, option_map, refl, ap, ◌∙◌}
 use Rattle.std.proofs.lemmas.Bool.{eq-eqb, ne_eqb}
-use Rattle.fs_rules.specs.Edits.{add_node, at_node, drop_node, with_node}
+use Rattle.fs_rules.specs.Edits.{add_node, drop_node, edit_node, with_node}
 use Rattle.fs_rules.specs.Tree.{Node, Nodes, Tree}
 
 -- the one that is another
@@ -19,12 +19,14 @@ elsewhere fileid q o nodes apart = ap (λ (b : Bool). if b then o else nodes q) 
 
 -- ---- edits of a tree
 
-pub at_here : (fileid : ℕ) (edit : Node → Node) (t : Tree) (n : Node) → t.nodes fileid ≡ Some n → (at_node fileid edit t).nodes fileid ≡ Some (edit n)
-unfolding at_node
+pub at_here : (fileid : ℕ) (edit : Node → Node) (t : Tree) (n : Node) → t.nodes fileid ≡ Some n
+    → (edit_node fileid edit t).nodes fileid ≡ Some (edit n)
+unfolding edit_node
 at_here fileid edit t n is = here fileid (option_map edit (t.nodes fileid)) t.nodes ∙ ap (option_map edit) is
 
-pub at_elsewhere : (fileid q : ℕ) (edit : Node → Node) (t : Tree) → (q ≡ fileid → ⊥) → (at_node fileid edit t).nodes q ≡ t.nodes q
-unfolding at_node
+pub at_elsewhere : (fileid q : ℕ) (edit : Node → Node) (t : Tree) → (q ≡ fileid → ⊥)
+    → (edit_node fileid edit t).nodes q ≡ t.nodes q
+unfolding edit_node
 at_elsewhere fileid q edit t apart = elsewhere fileid q (option_map edit (t.nodes fileid)) t.nodes apart
 
 pub add_here : (fileid : ℕ) (n : Node) (t : Tree) → (add_node fileid n t).nodes fileid ≡ Some n

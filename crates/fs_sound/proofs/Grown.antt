@@ -1,20 +1,21 @@
 -- One more name in a directory: how the nodes hang together then.
-use Rattle.std.proofs.Common.{◌≡◌, ℕ, ◌+◌, ◌<◌, ◌==◌, Bool, true, false, All, IfSome, List, [], ◌∷◌, ◌++◌, Option, Some, None, is_some, Ok, ⊎_elim, refl, sym, ap, subst, ◌∙◌, arith}
+use Rattle.std.proofs.Common.{◌≡◌, ℕ, ◌+◌, ◌<◌, ◌==◌, Bool, true, false, All, IfSome, List, [], ◌∷◌, ◌++◌, Option, Some, None}
+use Rattle.std.proofs.Common.{is_some, Ok, ⊎_elim, refl, sym, ap, subst, ◌∙◌, arith}
 use Rattle.std.proofs.lemmas.Bool.{cases_eq, or_parts}
 use Rattle.std.proofs.lemmas.List.Elements.{All-nil, All-push}
 use Rattle.nfs3_types.specs.declared.cred.Cred.{Cred}
 use Rattle.nfs3_types.specs.declared.status.Status.{Status}
-use Rattle.fs_rules.specs.declared.name.Name.{Name}
 use Rattle.fs_rules.specs.Attributes.{is_directory}
-use Rattle.fs_rules.specs.Checks.{Check, ◌>>=◌, unless}
-use Rattle.fs_rules.specs.Making.{free_name, is_reserved}
-use Rattle.fs_rules.specs.Names.{named}
-use Rattle.fs_rules.specs.Places.{LiveNode}
+use Rattle.fs_rules.specs.Checks.{Check, refuse_if, ◌>>=◌}
+use Rattle.fs_rules.specs.Making.{is_reserved, need_free_name}
+use Rattle.fs_rules.specs.Places.{Object, entry_at}
 use Rattle.fs_rules.specs.Renaming.{parent_of}
-use Rattle.fs_rules.specs.Tree.{Node, Nodes}
-use Rattle.fs_laws.specs.Bounds.{AreDistinct, Lacks}
-use Rattle.fs_sound.specs.Links.{count_of, names_in, all_numbers, names_of, is_some_directory, subdirectories, LeadsUp, IsRoot, IsPlaced, IsLinked, AreNames, HangTogether}
-use Rattle.fs_sound.proofs.Counts.{count_append, count_nil, counts_none, counts_one, distinct_append, lead_same, one_if, subdirectories_append}
+use Rattle.fs_rules.specs.Sound.{AreDistinct, AreNames, HangTogether, IsLinked, IsPlaced, IsRoot, Lacks, LeadsUp, all_numbers}
+use Rattle.fs_rules.specs.Sound.{count_in, count_names, count_of, is_some_directory, subdirectories}
+use Rattle.fs_rules.specs.Tree.{Node, Nodes, Tree}
+use Rattle.fs_rules.specs.declared.name_entry.NameEntry.{NameEntry}
+use Rattle.fs_sound.proofs.Counts.{count_append, count_nil, counts_none, counts_one, distinct_append, lead_same, one_if}
+use Rattle.fs_sound.proofs.Counts.{subdirectories_append}
 use Rattle.fs_sound.proofs.Facts.{names_are, placed}
 use Rattle.fs_sound.proofs.Sums.{sum_but}
 
@@ -29,17 +30,17 @@ pub record Grows (nodes after : Nodes) (d x : ℕ) : Type 0 where
   pub low : d < all_numbers
   pub was : nodes d ≡ Some before
   pub is : after d ≡ Some grown
-  pub directory : is_directory before.kind ≡ true
-  pub kind : grown.kind ≡ before.kind
-  pub parent : grown.parent ≡ before.parent
+  pub directory : is_directory before.inode.kind ≡ true
+  pub kind : grown.inode.kind ≡ before.inode.kind
+  pub parent : grown.inode.parent ≡ before.inode.parent
   pub names : grown.names ≡ before.names ++ (record { cookie = cookie; name = name; fileid = x } ∷ [])
   pub lacks : Lacks name before.names
-  pub links : grown.nlink ≡ before.nlink + one_if (is_some_directory (after x))
+  pub links : grown.inode.nlink ≡ before.inode.nlink + one_if (is_some_directory (after x))
   -- what the name leads to
   pub target : Node
   pub led : after x ≡ Some target
   pub nothing : target.names ≡ []
-  pub nameless : (id : ℕ) → names_in (nodes x) id ≡ 0
+  pub nameless : (id : ℕ) → count_in (nodes x) id ≡ 0
   pub apart : x ≡ d → ⊥
   pub other : x ≡ 1 → ⊥
   -- the other nodes
@@ -48,40 +49,45 @@ pub record Grows (nodes after : Nodes) (d x : ℕ) : Type 0 where
 -- ---- counts of names, kinds and parents
 
 module _ (nodes after : Nodes) (d x : ℕ) (g : Grows nodes after d x) where
-  names_there : (id : ℕ) → names_in (nodes x) id ≡ names_in (after x) id
-  names_there id = g.nameless id ∙ sym (ap (λ (o : Option Node). names_in o id) g.led ∙ ap (count_of id) g.nothing ∙ count_nil id)
+  names_there : (id : ℕ) → count_in (nodes x) id ≡ count_in (after x) id
+  names_there id = g.nameless id ∙ sym (ap (λ (o : Option Node). count_in o id) g.led ∙ ap (count_of id) g.nothing ∙ count_nil id)
 
-  names_beside : (id q : ℕ) → (q ≡ d → ⊥) → names_in (nodes q) id ≡ names_in (after q) id
+  names_beside : (id q : ℕ) → (q ≡ d → ⊥) → count_in (nodes q) id ≡ count_in (after q) id
   names_beside id q apart =
       ⊎_elim
-      (λ is. ap (λ (k : ℕ). names_in (nodes k) id) is ∙ names_there id ∙ sym (ap (λ (k : ℕ). names_in (after k) id) is))
-      (λ other. sym (ap (λ (o : Option Node). names_in o id) (g.rest q other apart)))
+      (λ is. ap (λ (k : ℕ). count_in (nodes k) id) is ∙ names_there id ∙ sym (ap (λ (k : ℕ). count_in (after k) id) is))
+      (λ other. sym (ap (λ (o : Option Node). count_in o id) (g.rest q other apart)))
       (cases_eq q x)
 
-  pub names_grown : (id : ℕ) → names_in (after d) id ≡ names_in (nodes d) id + one_if (x == id)
+  pub names_grown : (id : ℕ) → count_in (after d) id ≡ count_in (nodes d) id + one_if (x == id)
   names_grown id =
-      ap (λ (o : Option Node). names_in o id) g.is
+      ap (λ (o : Option Node). count_in o id) g.is
       ∙ ap (count_of id) g.names
       ∙ count_append id g.before.names (record { cookie = g.cookie; name = g.name; fileid = x })
-      ∙ ap (λ (o : Option Node). names_in o id + one_if (x == id)) (sym g.was)
+      ∙ ap (λ (o : Option Node). count_in o id + one_if (x == id)) (sym g.was)
 
-  all_grown : (id : ℕ) → names_of after id ≡ names_of nodes id + one_if (x == id)
-  unfolding names_of
+  all_grown : (id : ℕ) → count_names after id ≡ count_names nodes id + one_if (x == id)
+  unfolding count_names
   all_grown id =
-      omega (arith, sum_but (λ q. names_in (nodes q) id) (λ q. names_in (after q) id) d all_numbers g.low (names_beside id), names_grown id)
+      omega (
+        arith,
+        sum_but (λ q. count_in (nodes q) id) (λ q. count_in (after q) id) d all_numbers g.low (names_beside id),
+        names_grown id,
+      )
 
   -- the node of the name has one more
-  pub all_own : names_of after x ≡ names_of nodes x + 1
-  all_own = all_grown x ∙ ap (λ (k : ℕ). names_of nodes x + k) (counts_one x x refl)
+  pub all_own : count_names after x ≡ count_names nodes x + 1
+  all_own = all_grown x ∙ ap (λ (k : ℕ). count_names nodes x + k) (counts_one x x refl)
 
   -- and the others have the same
-  all_others : (id : ℕ) → (id ≡ x → ⊥) → names_of nodes id ≡ names_of after id
+  all_others : (id : ℕ) → (id ≡ x → ⊥) → count_names nodes id ≡ count_names after id
   all_others id other = omega (arith, all_grown id, counts_none x id (λ is. other (sym is)))
 
-  names_kept : (id q : ℕ) → (id ≡ x → ⊥) → names_in (nodes q) id ≡ names_in (after q) id
+  names_kept : (id q : ℕ) → (id ≡ x → ⊥) → count_in (nodes q) id ≡ count_in (after q) id
   names_kept id q other =
       ⊎_elim
-      (λ is. subst (λ (k : ℕ). names_in (nodes k) id ≡ names_in (after k) id) (sym is) (omega (arith, names_grown id, counts_none x id (λ is. other (sym is)))))
+      (λ is. subst (λ (k : ℕ). count_in (nodes k) id ≡ count_in (after k) id) (sym is)
+      (omega (arith, names_grown id, counts_none x id (λ is. other (sym is)))))
       (λ apart. names_beside id q apart)
       (cases_eq q d)
 
@@ -132,7 +138,8 @@ no_names nodes = record { distinct = tt; lead = All-nil (λ e. is_some (nodes e.
 
 -- ---- the whole, where what else matters is as it was
 
-module _ (nodes after : Nodes) (d x : ℕ) (g : Grows nodes after d x) (h : HangTogether nodes) (up : (id : ℕ) → LeadsUp nodes id → LeadsUp after id)
+module _ (nodes after : Nodes) (d x : ℕ) (g : Grows nodes after d x) (h : HangTogether nodes)
+    (up : (id : ℕ) → LeadsUp nodes id → LeadsUp after id)
     (below : (id : ℕ) (n : Node) → nodes id ≡ Some n → subdirectories nodes n.names ≡ subdirectories after n.names) where
   one_apart : 1 ≡ x → ⊥
   one_apart is = g.other (sym is)
@@ -143,35 +150,41 @@ module _ (nodes after : Nodes) (d x : ℕ) (g : Grows nodes after d x) (h : Hang
   root_grown : IsRoot (after 1)
   root_grown =
       let r = root_is (nodes 1) h.root in
-      root_by (after 1) (sym (kind_kept nodes after d x g 1 one_apart) ∙ r.0) (sym (parent_kept nodes after d x g 1 one_apart) ∙ r.1)
+      root_by (after 1) (sym (kind_kept nodes after d x g 1 one_apart) ∙ r.0)
+      (sym (parent_kept nodes after d x g 1 one_apart) ∙ r.1)
 
   names_carried : (o : Option Node) → IfSome o (λ n. AreNames nodes n.names) → IfSome o (λ n. AreNames after n.names)
-  names_carried (Some n) a = record { distinct = a.distinct; lead = lead_same nodes after n.names (some_kept nodes after d x g) a.lead }
+  names_carried (Some n) a =
+      record { distinct = a.distinct; lead = lead_same nodes after n.names (some_kept nodes after d x g) a.lead }
   names_carried None a = tt
 
   names_here : AreNames after g.grown.names
   names_here =
-      let e : Name = record { cookie = g.cookie; name = g.name; fileid = x } in
+      let e : NameEntry = record { cookie = g.cookie; name = g.name; fileid = x } in
       let a = names_are nodes d g.before h g.was in
-      let lead : All (λ e. is_some (after e.fileid) ≡ true) g.before.names = lead_same nodes after g.before.names (some_kept nodes after d x g) a.lead in
+      let lead : All (λ e. is_some (after e.fileid) ≡ true) g.before.names =
+      lead_same nodes after g.before.names (some_kept nodes after d x g) a.lead in
       subst (AreNames after) (sym g.names)
       (record {
         distinct = distinct_append g.before.names e a.distinct g.lacks;
-        lead = All-push (λ (e : Name). is_some (after e.fileid) ≡ true) g.before.names e lead (ap is_some g.led);
+        lead = All-push (λ (e : NameEntry). is_some (after e.fileid) ≡ true) g.before.names e lead (ap is_some g.led);
       })
 
   names_hang : (id : ℕ) → IfSome (after id) (λ n. AreNames after n.names)
   names_hang id =
       ⊎_elim
-      (λ is. subst (λ (o : Option Node). IfSome o (λ n. AreNames after n.names)) (sym (ap after is ∙ g.led)) (subst (AreNames after) (sym g.nothing) (no_names after)))
+      (λ is. subst (λ (o : Option Node). IfSome o (λ n. AreNames after n.names)) (sym (ap after is ∙ g.led))
+      (subst (AreNames after) (sym g.nothing) (no_names after)))
       (λ other.
       ⊎_elim
       (λ is. subst (λ (o : Option Node). IfSome o (λ n. AreNames after n.names)) (sym (ap after is ∙ g.is)) names_here)
-      (λ apart. subst (λ (o : Option Node). IfSome o (λ n. AreNames after n.names)) (sym (g.rest id other apart)) (names_carried (nodes id) (h.names id)))
+      (λ apart. subst (λ (o : Option Node). IfSome o (λ n. AreNames after n.names)) (sym (g.rest id other apart))
+      (names_carried (nodes id) (h.names id)))
       (cases_eq id d))
       (cases_eq id x)
 
-  linked_carried : (b : Bool) (id : ℕ) (n : Node) → nodes id ≡ Some n → (id ≡ x → ⊥) → IsLinked b nodes id n → IsLinked b after id n
+  linked_carried : (b : Bool) (id : ℕ) (n : Node) → nodes id ≡ Some n → (id ≡ x → ⊥) → IsLinked b nodes id n
+      → IsLinked b after id n
   linked_carried true id n is other l = record {
     links = l.links ∙ ap (λ (k : ℕ). 2 + k) (below id n is);
     up = up id l.up;
@@ -179,7 +192,7 @@ module _ (nodes after : Nodes) (d x : ℕ) (g : Grows nodes after d x) (h : Hang
         let p = l.parent apart in
         record {
           once = sym (all_others nodes after d x g id other) ∙ p.once;
-          there = sym (names_kept nodes after d x g id n.parent other) ∙ p.there;
+          there = sym (names_kept nodes after d x g id n.inode.parent other) ∙ p.there;
         };
   }
   linked_carried false id n is other l = record {
@@ -188,46 +201,57 @@ module _ (nodes after : Nodes) (d x : ℕ) (g : Grows nodes after d x) (h : Hang
   }
 
   links_carried : (id : ℕ) (o : Option Node) → nodes id ≡ o → (id ≡ x → ⊥)
-      → IfSome o (λ n. IsLinked (is_directory n.kind) nodes id n) → IfSome o (λ n. IsLinked (is_directory n.kind) after id n)
-  links_carried id (Some n) is other l = linked_carried (is_directory n.kind) id n is other l
+      → IfSome o (λ n. IsLinked (is_directory n.inode.kind) nodes id n)
+      → IfSome o (λ n. IsLinked (is_directory n.inode.kind) after id n)
+  links_carried id (Some n) is other l = linked_carried (is_directory n.inode.kind) id n is other l
   links_carried id None is other l = tt
 
   placed_here : IsPlaced after d g.grown
   placed_here =
-      let e : Name = record { cookie = g.cookie; name = g.name; fileid = x } in
+      let e : NameEntry = record { cookie = g.cookie; name = g.name; fileid = x } in
       let p = placed nodes d g.before h g.was g.directory in
       record {
-        links = omega (arith, g.links, p.links, below d g.before g.was, ap (subdirectories after) g.names, subdirectories_append after g.before.names e);
+        links = omega (
+          arith,
+          g.links,
+          p.links,
+          below d g.before g.was,
+          ap (subdirectories after) g.names,
+          subdirectories_append
+              after g.before.names e,
+        );
         up = up d p.up;
         parent = λ apart.
             let q = p.parent apart in
             record {
               once = sym (all_others nodes after d x g d own_apart) ∙ q.once;
-              there = ap (λ (k : ℕ). names_in (after k) d) g.parent ∙ sym (names_kept nodes after d x g d g.before.parent own_apart) ∙ q.there;
+              there = ap (λ (k : ℕ). count_in (after k) d) g.parent ∙ sym
+                  (names_kept nodes after d x g d g.before.inode.parent own_apart) ∙ q.there;
             };
       }
 
-  linked_here : IsLinked (is_directory g.grown.kind) after d g.grown
+  linked_here : IsLinked (is_directory g.grown.inode.kind) after d g.grown
   linked_here = subst (λ (b : Bool). IsLinked b after d g.grown) (sym (ap is_directory g.kind ∙ g.directory)) placed_here
 
-  links_hang : IsLinked (is_directory g.target.kind) after x g.target → (id : ℕ) → IfSome (after id) (λ n. IsLinked (is_directory n.kind) after id n)
+  links_hang : IsLinked (is_directory g.target.inode.kind) after x g.target → (id : ℕ)
+      → IfSome (after id) (λ n. IsLinked (is_directory n.inode.kind) after id n)
   links_hang own id =
       ⊎_elim
       (λ is.
-      subst (λ (k : ℕ). IfSome (after k) (λ n. IsLinked (is_directory n.kind) after k n)) (sym is)
-      (subst (λ (o : Option Node). IfSome o (λ n. IsLinked (is_directory n.kind) after x n)) (sym g.led) own))
+      subst (λ (k : ℕ). IfSome (after k) (λ n. IsLinked (is_directory n.inode.kind) after k n)) (sym is)
+      (subst (λ (o : Option Node). IfSome o (λ n. IsLinked (is_directory n.inode.kind) after x n)) (sym g.led) own))
       (λ other.
       ⊎_elim
       (λ is.
-      subst (λ (k : ℕ). IfSome (after k) (λ n. IsLinked (is_directory n.kind) after k n)) (sym is)
-      (subst (λ (o : Option Node). IfSome o (λ n. IsLinked (is_directory n.kind) after d n)) (sym g.is) linked_here))
+      subst (λ (k : ℕ). IfSome (after k) (λ n. IsLinked (is_directory n.inode.kind) after k n)) (sym is)
+      (subst (λ (o : Option Node). IfSome o (λ n. IsLinked (is_directory n.inode.kind) after d n)) (sym g.is) linked_here))
       (λ apart.
-      subst (λ (o : Option Node). IfSome o (λ n. IsLinked (is_directory n.kind) after id n)) (sym (g.rest id other apart))
+      subst (λ (o : Option Node). IfSome o (λ n. IsLinked (is_directory n.inode.kind) after id n)) (sym (g.rest id other apart))
       (links_carried id (nodes id) refl other (h.links id)))
       (cases_eq id d))
       (cases_eq id x)
 
-  pub grown_hangs : IsLinked (is_directory g.target.kind) after x g.target → HangTogether after
+  pub grown_hangs : IsLinked (is_directory g.target.inode.kind) after x g.target → HangTogether after
   grown_hangs own = record {
     root = root_grown;
     unnamed = sym (all_others nodes after d x g 1 one_apart) ∙ h.unnamed;
@@ -238,20 +262,22 @@ module _ (nodes after : Nodes) (d x : ℕ) (g : Grows nodes after d x) (h : Hang
 -- ---- checks
 
 -- the test did not refuse, and the rest passed
-pub step : {B : Type 0} (test : Bool) (status : Status) (rest : Check B) (b : B) → (unless test status >>= (λ u. rest)) ≡ Ok b → (test ≡ false) × (rest ≡ Ok b)
+pub step : {B : Type 0} (test : Bool) (status : Status) (rest : Check B) (b : B)
+    → (refuse_if test status >>= (λ u. rest)) ≡ Ok b → (test ≡ false) × (rest ≡ Ok b)
 step true status rest b e = absurd cc
 step false status rest b e = (refl, e)
 
 pub ok_is : {A : Type 0} (a b : A) → ◌≡◌ {A = Check A} (Ok a) (Ok b) → a ≡ b
 ok_is a b e = cc
 
-none_by : (o : Option Name) → is_some o ≡ false → o ≡ None
+none_by : (o : Option NameEntry) → is_some o ≡ false → o ≡ None
 none_by (Some e) h = absurd cc
 none_by None h = refl
 
 -- no entry has a name that is free
-pub free_ok : (cred : Cred) (l : LiveNode) (name : List ℕ) (u : Unit {0}) → free_name cred l name ≡ Ok u → named name l.node ≡ None
-unfolding free_name
-free_ok cred l name u e =
+pub free_ok : (t : Tree) (cred : Cred) (o : Object) (name : List ℕ) (u : Unit {0}) → need_free_name t cred o name ≡ Ok u
+    → entry_at t o.place name ≡ None
+unfolding need_free_name
+free_ok t cred o name u e =
     let taken = step _ _ _ u e in
-    none_by (named name l.node) (or_parts (is_reserved l name) (is_some (named name l.node)) taken.0).1
+    none_by (entry_at t o.place name) (or_parts (is_reserved o name) (is_some (entry_at t o.place name)) taken.0).1

@@ -6,7 +6,6 @@ pub mod Up
 pub mod Facts
 pub mod Checked
 pub mod Kept
-pub mod Copies
 pub mod First
 pub mod Grown
 pub mod Made
@@ -18,3 +17,4 @@ pub mod Moving
 pub mod Replacing
 pub mod Moved
 pub mod Joined
+pub mod Present

@@ -1,7 +1,7 @@
 -- Sums over all numbers below one.
 use Rattle.std.proofs.Common.{◌≡◌, ℕ, zero, suc, ◌+◌, ◌≤◌, ◌<◌, ⊎_elim, refl, ap, arith}
 use Rattle.std.proofs.lemmas.Bool.{cases_eq}
-use Rattle.fs_sound.specs.Links.{sum_below}
+use Rattle.fs_rules.specs.Sound.{sum_below}
 
 -- ---- sums that are the same
 

@@ -1,9 +1,13 @@
 -- How the parents of directories lead to the root.
-use Rattle.std.proofs.Common.{◌≡◌, ℕ, zero, suc, ◌==◌, Bool, true, false, if◌then◌else◌, List, [], ◌∷◌, find, Option, Some, None, is_some, cond, ⊎_elim, refl, sym, ap, subst, ◌∙◌}
+use Rattle.std.proofs.Common.{◌≡◌, ℕ, zero, suc, ◌==◌, Bool, true, false, if◌then◌else◌, Option}
+use Rattle.std.proofs.Common.{None, ⊎_elim, refl, sym, ap, subst, ◌∙◌}
 use Rattle.std.proofs.lemmas.Bool.{cases_eq, eqb-true, eqb-false}
-use Rattle.fs_rules.specs.Renaming.{is_in, line, parent_of}
+use Rattle.fs_rules.specs.Answers.{after}
+use Rattle.fs_rules.specs.Renaming.{climb, parent_of, through}
+use Rattle.fs_rules.specs.Sound.{LeadsUp, ancestor}
 use Rattle.fs_rules.specs.Tree.{Node, Nodes}
-use Rattle.fs_sound.specs.Links.{ancestor, LeadsUp}
+use Rattle.fs_rules.specs.declared.plans.Climb.{Climb}
+use Rattle.fs_rules.specs.declared.plans.Climb.TheVariants.{Found, Root, TooDeep}
 
 -- ---- steps
 
@@ -38,7 +42,8 @@ way nodes after P stays (suc steps) id ends p =
     (λ is. up_at_root after id is)
     (λ apart.
     let s = stays id p apart in
-    up_below after id (parent_of (nodes id) id) (sym s.same) (way nodes after P stays steps (parent_of (nodes id) id) ends s.next))
+    up_below after id (parent_of (nodes id) id) (sym s.same) (way nodes after P stays steps (parent_of (nodes id) id) ends
+    s.next))
     (cases_eq id 1)
 
 pub up_same : (nodes after : Nodes) (P : ℕ → Type 0) → ((id : ℕ) → P id → (id ≡ 1 → ⊥) → StaysOnWay nodes after P id)
@@ -46,17 +51,20 @@ pub up_same : (nodes after : Nodes) (P : ℕ → Type 0) → ((id : ℕ) → P i
 up_same nodes after P stays id p u = way nodes after P stays u.steps id u.ends p
 
 -- where all parents but that of one are the same, and that one leads up
-join : (nodes after : Nodes) (x : ℕ) → ((id : ℕ) → (id ≡ x → ⊥) → parent_of (nodes id) id ≡ parent_of (after id) id) → LeadsUp after x
+join : (nodes after : Nodes) (x : ℕ) → ((id : ℕ) → (id ≡ x → ⊥) → parent_of (nodes id) id ≡ parent_of (after id) id)
+    → LeadsUp after x
     → (steps id : ℕ) → ancestor nodes steps id ≡ 1 → LeadsUp after id
 unfolding ancestor
 join nodes after x same up zero id ends = up_at_root after id ends
 join nodes after x same up (suc steps) id ends =
     ⊎_elim
     (λ is. subst (LeadsUp after) (sym is) up)
-    (λ apart. up_below after id (parent_of (nodes id) id) (sym (same id apart)) (join nodes after x same up steps (parent_of (nodes id) id) ends))
+    (λ apart. up_below after id (parent_of (nodes id) id) (sym (same id apart))
+    (join nodes after x same up steps (parent_of (nodes id) id) ends))
     (cases_eq id x)
 
-pub up_joined : (nodes after : Nodes) (x : ℕ) → ((id : ℕ) → (id ≡ x → ⊥) → parent_of (nodes id) id ≡ parent_of (after id) id) → LeadsUp after x
+pub up_joined : (nodes after : Nodes) (x : ℕ) → ((id : ℕ) → (id ≡ x → ⊥) → parent_of (nodes id) id ≡ parent_of (after id) id)
+    → LeadsUp after x
     → (id : ℕ) → LeadsUp nodes id → LeadsUp after id
 up_joined nodes after x same up id u = join nodes after x same up u.steps id u.ends
 
@@ -66,18 +74,21 @@ unfolding ancestor
 stuck nodes x none zero = refl
 stuck nodes x none (suc steps) = ap (λ (o : Option Node). ancestor nodes steps (parent_of o x)) none ∙ stuck nodes x none steps
 
-add : (nodes after : Nodes) (x : ℕ) → nodes x ≡ None → (x ≡ 1 → ⊥) → ((id : ℕ) → (id ≡ x → ⊥) → parent_of (nodes id) id ≡ parent_of (after id) id)
+add : (nodes after : Nodes) (x : ℕ) → nodes x ≡ None → (x ≡ 1 → ⊥)
+    → ((id : ℕ) → (id ≡ x → ⊥) → parent_of (nodes id) id ≡ parent_of (after id) id)
     → (steps id : ℕ) → ancestor nodes steps id ≡ 1 → LeadsUp after id
 unfolding ancestor
 add nodes after x none apart same zero id ends = up_at_root after id ends
 add nodes after x none apart same (suc steps) id ends =
     ⊎_elim
     (λ is. absurd (apart (sym (stuck nodes x none (suc steps)) ∙ ap (ancestor nodes (suc steps)) (sym is) ∙ ends)))
-    (λ other. up_below after id (parent_of (nodes id) id) (sym (same id other)) (add nodes after x none apart same steps (parent_of (nodes id) id) ends))
+    (λ other. up_below after id (parent_of (nodes id) id) (sym (same id other))
+    (add nodes after x none apart same steps (parent_of (nodes id) id) ends))
     (cases_eq id x)
 
 -- with a new node, which none had as its parent
-pub up_added : (nodes after : Nodes) (x : ℕ) → nodes x ≡ None → (x ≡ 1 → ⊥) → ((id : ℕ) → (id ≡ x → ⊥) → parent_of (nodes id) id ≡ parent_of (after id) id)
+pub up_added : (nodes after : Nodes) (x : ℕ) → nodes x ≡ None → (x ≡ 1 → ⊥)
+    → ((id : ℕ) → (id ≡ x → ⊥) → parent_of (nodes id) id ≡ parent_of (after id) id)
     → (id : ℕ) → LeadsUp nodes id → LeadsUp after id
 up_added nodes after x none apart same id u = add nodes after x none apart same u.steps id u.ends
 
@@ -128,31 +139,30 @@ past_up nodes x id l = record { steps = l.steps; ends = ends_by nodes x l.steps 
 pub past_same : (nodes after : Nodes) (x : ℕ) → ((id : ℕ) → (id ≡ x → ⊥) → parent_of (nodes id) id ≡ parent_of (after id) id)
     → (id : ℕ) → LeadsPast nodes x id → LeadsUp after id
 past_same nodes after x same id l =
-    up_same nodes after (LeadsPast nodes x) (λ q p apart. record { same = same q (past_here nodes x q p); next = past_next nodes x q p apart }) id l (past_up nodes x id l)
+    up_same nodes after (LeadsPast nodes x) (λ q p apart. record {
+      same = same q (past_here nodes x q p);
+      next = past_next nodes
+          x q p apart;
+    }) id l (past_up nodes x id l)
 
--- ---- what the list of those above a directory says
+-- ---- what the way up says
 
-not_in : (x id : ℕ) (rest : List ℕ) (b : Bool) → (id == x) ≡ b → is_some (cond b (Some id) (find (λ above. above == x) rest)) ≡ false → (id ≡ x → ⊥) × (is_in x rest ≡ false)
-not_in x id rest true e h = absurd cc
-not_in x id rest false e h = (eqb-false id x e, h)
+through_root : (here : Bool) (way : Climb) → through here way ≡ Root → (here ≡ false) × (way ≡ Root)
+through_root true TooDeep e = absurd cc
+through_root true Found e = absurd cc
+through_root true Root e = absurd cc
+through_root false way e = (refl, e)
 
-in_rest : (x id : ℕ) (rest : List ℕ) (b : Bool) → (id == x) ≡ b → (id ≡ x → ⊥) → is_some (cond b (Some id) (find (λ above. above == x) rest)) ≡ true → is_in x rest ≡ true
-in_rest x id rest true e apart h = absurd (apart (eqb-true id x e))
-in_rest x id rest false e apart h = h
+climb_by : (nodes : Nodes) (x most id : ℕ) (b : Bool) → (id == 1) ≡ b
+    → (climb nodes x most (parent_of (nodes id) id) ≡ Root → LeadsPast nodes x (parent_of (nodes id) id)) → (id ≡ x → ⊥)
+    → (if b then Root else climb nodes x most (parent_of (nodes id) id)) ≡ Root → LeadsPast nodes x id
+climb_by nodes x most id true e before apart up = past_root nodes x id (eqb-true id 1 e) apart
+climb_by nodes x most id false e before apart up = past_step nodes x id apart (before up)
 
-line_by : (nodes : Nodes) (x most id : ℕ) (b : Bool) → (id == 1) ≡ b
-    → (is_in x (line nodes most (parent_of (nodes id) id)) ≡ false → is_in 1 (line nodes most (parent_of (nodes id) id)) ≡ true → LeadsPast nodes x (parent_of (nodes id) id))
-    → is_in x (id ∷ (if b then [] else line nodes most (parent_of (nodes id) id))) ≡ false
-    → is_in 1 (id ∷ (if b then [] else line nodes most (parent_of (nodes id) id))) ≡ true → LeadsPast nodes x id
-line_by nodes x most id true e before out on = past_root nodes x id (eqb-true id 1 e) (not_in x id [] (id == x) refl out).0
-line_by nodes x most id false e before out on =
-    let rest : List ℕ = line nodes most (parent_of (nodes id) id) in
-    let r = not_in x id rest (id == x) refl out in
-    past_step nodes x id r.0 (before r.1 (in_rest 1 id rest (id == 1) refl (eqb-false id 1 e) on))
-
--- a list with the root and without x
-pub past_line : (nodes : Nodes) (x most id : ℕ) → is_in x (line nodes most id) ≡ false → is_in 1 (line nodes most id) ≡ true → LeadsPast nodes x id
-unfolding line
-past_line nodes x zero id out on = absurd cc
-past_line nodes x (suc most) id out on =
-    line_by nodes x most id (id == 1) refl (past_line nodes x most (parent_of (nodes id) id)) out on
+-- a way to the root that does not lead through x
+pub past_climb : (nodes : Nodes) (x most id : ℕ) → climb nodes x most id ≡ Root → LeadsPast nodes x id
+unfolding climb
+past_climb nodes x zero id e = absurd cc
+past_climb nodes x (suc most) id e =
+    let parts = through_root (id == x) (if id == 1 then Root else climb nodes x most (parent_of (nodes id) id)) e in
+    climb_by nodes x most id (id == 1) refl (past_climb nodes x most (parent_of (nodes id) id)) (eqb-false id x parts.0) parts.1

@@ -1,8 +1,11 @@
 //! Sound trees.
 
-ghost use Rattle.std.specs.Prelude.{ℕ, ◌+◌, ◌^◌, ◌≤◌, ◌<◌, List};
+ghost use Rattle.std.specs.Prelude.{◌≡◌, ℕ, ◌^◌, ◌≤◌, ◌<◌, true, List, Some, is_some};
+ghost use Rattle.fs_rules.specs.declared.name_entry.NameEntry.{NameEntry};
+ghost use Rattle.fs_rules.specs.declared.place.Place.{Place};
+ghost use Rattle.fs_rules.specs.Places.{beside, entry_at, leads_to};
 ghost use Rattle.nfs3_types.specs.declared.moment.Moment.{Moment};
-ghost use Rattle.fs_sound.specs.Links.{IsSound};
+ghost use Rattle.fs_rules.specs.Sound.{IsSound};
 ghost use Rattle.fs_rules.specs.Answers.{Asked, after};
 ghost use Rattle.fs_rules.specs.Tree.{Tree, first_tree};
 
@@ -10,7 +13,8 @@ use fs_laws::{calls_keep_bounds, first_tree_has_bounds};
 
 /// The first tree is sound.
 pub fn first_tree_is_sound()
-    ensures { (fsid : ℕ) (verifier : List ℕ) (first : Moment) → fsid ≤ 2 ^ 63 + 2 ^ 35 → IsSound (first_tree fsid verifier first) }
+    ensures { (fsid : ℕ) (verifier : List ℕ) (first : Moment) → fsid ≤ 2 ^ 63 →
+        IsSound (first_tree fsid verifier first) }
 {
     first_tree_has_bounds();
 }
@@ -21,3 +25,10 @@ pub fn calls_keep_trees_sound()
 {
     calls_keep_bounds();
 }
+
+/// In a sound tree each entry leads to a node: no row of the answer table meets a name that leads to none.
+#[tactic(auto, using(crate::proofs::Present::names_lead))]
+pub fn names_lead_to_nodes()
+    ensures { (t : Tree) (place : Place) (name : List ℕ) (e : NameEntry) → IsSound t →
+        entry_at t place name ≡ Some e → is_some (leads_to t (beside place e)) ≡ true }
+{}
