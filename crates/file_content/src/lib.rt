@@ -10,6 +10,3 @@ mod piece;
 mod pieces;
 
 pub use content::Content;
-
-#[cfg(test)]
-mod tests;

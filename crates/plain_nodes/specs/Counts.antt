@@ -20,7 +20,7 @@ IsListed nodes = (ids : List ℕ) × Lists nodes ids
 
 -- how many bytes a file holds; what is no file counts none
 abbrev pub bytes_of : Node → ℕ
-bytes_of n = if is_file n.kind then length n.content else 0
+bytes_of n = if is_file n.inode.kind then length n.content else 0
 
 abbrev pub bytes_in : Option Node → ℕ
 bytes_in (Some n) = bytes_of n

@@ -1,9 +1,5 @@
-pub mod Reads
 pub mod Entries
 pub mod Giving
-pub mod Room
-pub mod Linking
-pub mod Moving
 pub mod Needs
-pub mod Seeing
+pub mod Starting
 pub mod Trees

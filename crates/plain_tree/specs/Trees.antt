@@ -1,5 +1,7 @@
 -- What the code's trees are, as plain data.
 use Rattle.std.specs.Prelude.{map}
+use Rattle.fs_rules.specs.declared.name_entry.NameEntry.{NameEntry}
+use Rattle.fs_rules.specs.Places.{snapshot_entry}
 use Rattle.fs_rules.specs.Tree as plain
 use Rattle.plain_nodes.specs.Nodes.{nodes_of}
 use Rattle.plain_tree.specs.declared.snapshot.Snapshot.{Snapshot}
@@ -7,6 +9,10 @@ use Rattle.plain_tree.specs.declared.plain.Plain.{Plain}
 
 abbrev pub snapshot_of : Snapshot → plain.Snapshot
 snapshot_of s = record { name = s.name; number = s.number; nodes = nodes_of s.nodes }
+
+-- a snapshot as an entry of `.snapshot`
+abbrev pub entry_of : Snapshot → NameEntry
+entry_of s = snapshot_entry (snapshot_of s)
 
 abbrev pub tree_of : Plain → plain.Tree
 tree_of p = record {

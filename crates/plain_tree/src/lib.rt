@@ -5,24 +5,30 @@
 //! its files.
 //! It stands on `fs_rules` for the table and the rules, on `plain_nodes` for its nodes, and on `file_content` for
 //! what files hold.
+//!
+//! ```
+//! let mut tree = Plain::new(alloc, fsid, verifier, now)?;
+//! let reply = tree.answer(alloc, &cred, &CallOver::GetAttr(root), now, 0)?;
+//! assert!(reply.status == Status::Ok);
+//! assert!(tree.node_count() == 1);
+//! ```
 #![tactic(auto)]
 
 mod answer;
+mod checks;
 mod counts;
 mod creating;
 mod fault;
-mod found;
 mod linking;
 mod listed;
 mod listing;
 mod looking;
 mod making;
-mod outcome;
+mod object;
 mod plain;
 mod reading;
 mod removing;
 mod renaming;
-mod rights;
 mod setting;
 mod snapshot;
 mod snapshots;

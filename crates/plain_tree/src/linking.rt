@@ -1,113 +1,71 @@
 //! LINK.
 
-ghost use Rattle.std.specs.Prelude.{◌≡◌, ◌+◌, ◌^◌, ◌<◌, false, Some, IfOk, IfSome, OnErr, OnOk};
-ghost use Rattle.fs_rules.specs.Edits.{at_node, changed, linked, naming, touched};
-ghost use Rattle.fs_rules.specs.Making as making;
-ghost use Rattle.fs_rules.specs.Making.{lacks_cookies};
+ghost use Rattle.std.specs.Prelude.{◌≡◌, IfOk, OnErr, OnOk};
+ghost use Rattle.fs_rules.specs.Edits.{add_link, add_name, edit_node, set_ctime, touch};
 ghost use Rattle.fs_rules.specs.Renaming as table;
-ghost use Rattle.plain_tree.specs.Giving.{Does, Gives};
-ghost use Rattle.plain_tree.specs.Linking.{linking_of};
+ghost use Rattle.plain_nodes.specs.Nodes.{nodes_of};
+ghost use Rattle.plain_tree.specs.Giving.{DoesOwn};
+ghost use Rattle.plain_tree.specs.Needs.{CanLink};
 
+use crate::checks::{
+    is_directory, is_live, need, need_directory, need_good_name, need_live, need_search, refuse_if,
+};
 use crate::fault::Fault;
-use crate::found::{FoundLive, as_directory, good_name, live, live_or};
-use crate::outcome::change;
+use crate::making::lacks_cookies;
 use crate::plain::Plain;
-use crate::rights::{SEARCH, may_do};
-use fs_rules::{LinkPlan, Place};
-use nfs3_types::{Body, Cred, FileType, LinkArgs, LinkOk, Moment, NoMemory, Status, Text};
-use plain_nodes::Node;
-use plain_nodes::limits::{MOST_LINKS, MOST_NUMBERS};
+use fs_rules::limits::MOST_LINKS;
+use fs_rules::{LinkPlan, Place, wcc_of};
+use nfs3_types::{Body, Cred, LinkArgs, LinkOk, Moment, NoMemory, Status, Text};
 use std::alloc::Global;
 
-/// The file, and the directory of the new name.
-#[derive(Drop)]
-pub struct Linking<'a> {
-    /// The file.
-    pub file: FoundLive<'a>,
-    /// The directory.
-    pub directory: FoundLive<'a>,
-}
-
-/// Whether a directory has no cookie for a further name.
-#[tactic(auto, unfolding(fs_rules::specs::Limits::most_numbers))]
-pub fn lacks_cookies(directory: &Node) -> bool
-    ensures { result ≡ lacks_cookies directory.now }
-{
-    directory.next_cookie >= MOST_NUMBERS
-}
-
 impl Plain {
-    ghost use Rattle.plain_nodes.specs.Nodes.{nodes_of};
     ghost use Rattle.plain_tree.specs.Trees.{tree_of};
 
-    /// The file, and the directory of the new name: a file that is not in the live tree is in another file system
-    /// than the directory.
-    #[tactic(auto, unfolding(fs_rules::specs::Renaming::linking))]
-    fn linking(&self, a: &LinkArgs<Text>) -> Result<Linking<'_>, Status>
-        ensures check { Gives linking_of (table.linking (tree_of self.now) a.now) result }
-        ensures file { IfOk result (λ l. nodes_of self.now.nodes l.file.fileid ≡ Some l.file.node.now) }
-        ensures directory { IfOk result (λ l. nodes_of self.now.nodes l.directory.fileid ≡ Some l.directory.node.now) }
-    {
-        let first = self.found(a.file.as_slice())?;
-        let second = self.found(a.link.directory.as_slice())?;
-        as_directory(&second)?;
-        let directory = live(&second)?;
-        let file = live_or(Status::Xdev, &first)?;
-        good_name(a.link.name.as_slice())?;
-        Ok(Linking { file, directory })
-    }
-
-    /// What LINK is going to do.
-    #[tactic(auto, unfolding(fs_rules::specs::Renaming::link_plan, fs_rules::specs::Limits::most_links, fs_rules::specs::Attributes::attributes_of, fs_rules::specs::Places::attributes_at))]
+    /// What LINK is going to do: a file that is not in the live tree is in another file system than the directory.
+    #[tactic(auto, unfolding(fs_rules::specs::Renaming::link_plan, fs_rules::specs::Limits::most_links))]
     fn link_plan(&self, cred: &Cred, a: &LinkArgs<Text>) -> Result<LinkPlan, Status>
-        ensures plan { Gives (λ plan. plan) (table.link_plan (tree_of self.now) cred.now a.now) result }
-        ensures links { IfOk result (λ plan. IfSome (nodes_of self.now.nodes plan.file) (λ n. n.nlink + 1 < 2 ^ 32)) }
-        ensures cookies { IfOk result (λ plan. IfSome (nodes_of self.now.nodes plan.directory) (λ n. lacks_cookies n ≡ false)) }
+        ensures check { result ≡ table.link_plan (tree_of self.now) cred.now a.now }
+        ensures ready { IfOk result (CanLink (nodes_of self.now.nodes)) }
     {
-        let l = self.linking(a)?;
-        let file = l.file.node;
-        if file.kind() == FileType::Dir {
-            return Err(Status::Inval);
-        }
-        let attributes = self.live_attributes(&l.directory);
-        if !may_do(cred, &attributes, SEARCH) {
-            return Err(Status::Acces);
-        }
-        self.free_name(cred, &l.directory, a.link.name.as_slice())?;
-        if file.nlink >= MOST_LINKS {
-            return Err(Status::MLink);
-        }
-        if lacks_cookies(l.directory.node) {
-            return Err(Status::NoSpc);
-        }
+        let name = a.link.name.as_slice();
+        let file = self.find_object(a.file.as_slice())?;
+        let directory = self.find_object(a.link.directory.as_slice())?;
+        need_directory(&directory)?;
+        need_live(&directory)?;
+        need(is_live(file.place), Status::Xdev)?;
+        need_good_name(name)?;
+        refuse_if(is_directory(file.inode.kind), Status::Inval)?;
+        need_search(cred, &directory)?;
+        self.need_free_name(cred, &directory, name)?;
+        refuse_if(file.inode.nlink >= MOST_LINKS, Status::MLink)?;
+        refuse_if(lacks_cookies(&directory.inode), Status::NoSpc)?;
         Ok(LinkPlan {
-            file: l.file.fileid,
-            directory: l.directory.fileid,
+            file: file.place.fileid(),
+            directory: directory.place.fileid(),
         })
     }
 
     /// A file has a further name in a directory; or it answers `NoMemory`, and the tree is as it was.
-    #[tactic(auto, unfolding(fs_rules::specs::Edits::at_node))]
-    fn linked(
+    #[tactic(auto, unfolding(fs_rules::specs::Edits::edit_node))]
+    fn add_link(
         &mut self,
         alloc: Global,
         plan: &LinkPlan,
         name: &[u8],
         now: Moment,
     ) -> Result<(), NoMemory>
-        requires links { IfSome (nodes_of self.old.nodes plan.now.file) (λ n. n.nlink + 1 < 2 ^ 32) }
-        requires cookies { IfSome (nodes_of self.old.nodes plan.now.directory) (λ n. lacks_cookies n ≡ false) }
-        ensures ok { OnOk result (tree_of self.new ≡ at_node plan.now.directory (λ n. touched now (naming name.now plan.now.file n)) (at_node plan.now.file (λ n. changed now (linked n)) (tree_of self.old))) }
+        requires { CanLink (nodes_of self.old.nodes) plan.now }
+        ensures ok { OnOk result (tree_of self.new ≡ edit_node plan.now.directory (λ n. touch now (add_name name.now plan.now.file n)) (edit_node plan.now.file (λ n. set_ctime now (add_link n)) (tree_of self.old))) }
         ensures err { OnErr result (tree_of self.new ≡ tree_of self.old) }
     {
         self.nodes
-            .gain_name(alloc, plan.directory, name, plan.file, now)?;
+            .add_name(alloc, plan.directory, name, plan.file, now)?;
         self.nodes.link(plan.file, now);
         Ok(())
     }
 
     /// LINK.
-    #[tactic(auto, unfolding(fs_rules::specs::Renaming::link, fs_rules::specs::Outcomes::change))]
+    #[tactic(auto, unfolding(fs_rules::specs::Renaming::link))]
     pub(crate) fn link(
         &mut self,
         alloc: Global,
@@ -115,15 +73,15 @@ impl Plain {
         a: &LinkArgs<Text>,
         now: Moment,
     ) -> Result<Body, Fault>
-        ensures { Does 15 (table.link (tree_of self.old) cred.now a.now now) (tree_of self.old) (tree_of self.new) result }
+        ensures { DoesOwn (table.link (tree_of self.old) cred.now a.now now) (tree_of self.old) (tree_of self.new) result }
     {
         let plan = self.link_plan(cred, a)?;
         let place = Place::Live(plan.directory);
         let before = self.shown(place);
-        self.linked(alloc, &plan, a.link.name.as_slice(), now)?;
+        self.add_link(alloc, &plan, a.link.name.as_slice(), now)?;
         Ok(Body::Link(LinkOk {
             attributes: self.shown(Place::Live(plan.file)),
-            directory: change(before, self.shown(place)),
+            directory: wcc_of(before, self.shown(place)),
         }))
     }
 }

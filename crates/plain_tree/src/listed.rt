@@ -8,7 +8,7 @@ ghost use Rattle.plain_tree.specs.Trees.{snapshot_of};
 
 use crate::looking::beside;
 use crate::snapshot::Snapshot;
-use fs_rules::{Name, Place};
+use fs_rules::{NameEntry, Place};
 use nfs3_types::{NoMemory, Text};
 use std::alloc::Global;
 use std::marker::Model;
@@ -55,7 +55,7 @@ pub fn push_names(
     entries: &mut Vec<Listed>,
     cookie: u64,
     directory: Place,
-    names: &[Name],
+    names: &[NameEntry],
 ) -> Result<(), NoMemory>
     ensures { OnOk result (entries.new.items ≡ entries.old.items ++ behind cookie (map (listed directory) names.now)) }
 {

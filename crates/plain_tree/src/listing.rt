@@ -1,24 +1,27 @@
 //! READDIR and READDIRPLUS.
 
 ghost use Rattle.std.specs.Prelude.{◌≡◌, ◌++◌, map, IfOk, OnOk};
-ghost use Rattle.fs_rules.specs.Listing as rule;
+ghost use Rattle.fs_rules.specs.Listing as table;
 ghost use Rattle.fs_rules.specs.Listing.{behind, entry, entry_plus, listed, listing};
-ghost use Rattle.plain_tree.specs.Entries.{page_of, size_with, told_of};
-ghost use Rattle.plain_tree.specs.Giving.{Gives, GivesOwn};
-ghost use Rattle.plain_tree.specs.Seeing.{object};
+ghost use Rattle.fs_rules.specs.Places.{names_at};
+ghost use Rattle.plain_tree.specs.Entries.{size_with};
+ghost use Rattle.plain_tree.specs.Giving.{GivesOwn};
 ghost use Rattle.plain_tree.specs.Trees.{tree_of};
 
+use crate::checks::{need, need_directory, refuse_if};
 use crate::fault::Fault;
-use crate::found::{Found, as_directory};
 use crate::listed::{Listed, count_fitting, push_behind, push_names, push_snapshots};
+use crate::looking::above;
+use crate::object::Object;
 use crate::plain::Plain;
-use crate::rights::{READ, may_do};
+use fs_rules::limits::MOST_LISTING;
+use fs_rules::{Place, may_read};
 use nfs3_types::{
     Body, Cred, DirEntry, DirEntryPlus, ListOf, NoMemory, ReadDirArgs, ReadDirOk, ReadDirPlusArgs,
     ReadDirPlusOk, Status, Text,
 };
-use plain_nodes::limits::MOST_TRANSFER;
 use std::alloc::Global;
+use std::marker::Model;
 
 /// The bytes of a result beside its entries.
 const BARE_SIZE: u32 = 104;
@@ -29,48 +32,9 @@ const ENTRY_SIZE: u32 = 24;
 /// The bytes of an entry of READDIRPLUS beside its name.
 const ENTRY_PLUS_SIZE: u32 = 144;
 
-/// Puts in the names of a directory that are listed behind a cookie.
-#[tactic(auto, unfolding(fs_rules::specs::Places::snapshot_directory))]
-fn push_names_of(
-    alloc: Global,
-    entries: &mut Vec<Listed>,
-    cookie: u64,
-    f: &Found<'_>,
-) -> Result<(), NoMemory>
-    ensures { OnOk result (entries.new.items ≡ entries.old.items ++ behind cookie (map (listed (object f.now).place) (object f.now).node.names)) }
-{
-    match f {
-        Found::Live(_, node) => push_names(alloc, entries, cookie, f.place(), &node.names),
-        Found::Snapshots(tree) => push_snapshots(alloc, entries, cookie, &tree.snapshots),
-        Found::Kept(_, _, node) => push_names(alloc, entries, cookie, f.place(), &node.names),
-    }
-}
-
-/// What a directory lists behind a cookie.
-#[tactic(auto, unfolding(fs_rules::specs::Listing::listing))]
-fn listed_behind(alloc: Global, f: &Found<'_>, cookie: u64) -> Result<Vec<Listed>, NoMemory>
-    ensures { IfOk result (λ entries. entries.items ≡ behind cookie (listing (object f.now))) }
-{
-    let mut entries = Vec::new(alloc);
-    let itself = Listed {
-        cookie: 1,
-        name: Text::from_slice(alloc, b".")?,
-        place: f.place(),
-    };
-    push_behind(&mut entries, cookie, itself)?;
-    let parent = Listed {
-        cookie: 2,
-        name: Text::from_slice(alloc, b"..")?,
-        place: f.above(),
-    };
-    push_behind(&mut entries, cookie, parent)?;
-    push_names_of(alloc, &mut entries, cookie, f)?;
-    Ok(entries)
-}
-
 /// Whether it is the verifier that every result has: zeros.
 fn is_zeros(verifier: &[u8]) -> bool
-    ensures { result ≡ rule.is_zeros verifier.now }
+    ensures { result ≡ table.is_zeros verifier.now }
 {
     verifier == [0; 8].as_slice()
 }
@@ -127,26 +91,38 @@ fn entries_plus_of(
 
 /// A directory, the entries of it that are told, and whether the listing ends with them.
 #[derive(Drop)]
-pub struct Page<'a> {
+pub struct Page {
     /// The directory.
-    pub directory: Found<'a>,
+    pub directory: Object,
     /// What is told of its listing.
     pub told: Vec<Listed>,
     /// Whether the listing ends with it.
     pub eof: bool,
 }
 
+impl Model for Page {
+    ghost use Rattle.fs_rules.specs.Listing.{Page};
+
+    ghost Value = { Page };
+
+    ghost view = { λ p. record {
+      directory = p.directory;
+      told = p.told.items;
+      eof = p.eof;
+    } };
+}
+
 /// Of what is left of a directory's listing as much as fits; TOOSMALL where nothing of something does.
-#[tactic(auto, unfolding(crate::specs::Entries::told_of, fs_rules::specs::Limits::most_transfer), using(crate::proofs::Fitted::take_fitting))]
-fn told_of<'a>(
-    directory: Found<'a>,
-    mut left: Vec<Listed>,
+#[tactic(auto, unfolding(fs_rules::specs::Listing::page_behind, fs_rules::specs::Listing::page_of, fs_rules::specs::Limits::most_listing), using(crate::proofs::Fitted::take_fitting))]
+fn page_behind(
+    directory: Object,
     bare: u32,
     count: u32,
-) -> Result<Page<'a>, Status>
-    ensures { Gives page_of (told_of (size_with bare) count (object directory.entry) left.items) result }
+    mut left: Vec<Listed>,
+) -> Result<Page, Status>
+    ensures { result ≡ table.page_behind directory (size_with bare) count left.items }
 {
-    let limit = count.min(MOST_TRANSFER);
+    let limit = count.min(MOST_LISTING);
     if limit < BARE_SIZE {
         return Err(Status::TooSmall);
     }
@@ -164,31 +140,73 @@ fn told_of<'a>(
 }
 
 impl Plain {
+    /// Puts in the names of a directory that are listed behind a cookie.
+    #[tactic(auto, unfolding(fs_rules::specs::Places::node_at, fs_rules::specs::Places::snapshot_directory))]
+    fn push_names_at(
+        &self,
+        alloc: Global,
+        entries: &mut Vec<Listed>,
+        cookie: u64,
+        directory: Place,
+    ) -> Result<(), NoMemory>
+        ensures { OnOk result (entries.new.items ≡ entries.old.items ++ behind cookie (map (listed directory) (names_at (tree_of self.now) directory))) }
+    {
+        match directory {
+            Place::Live(fileid) => match self.nodes.get(fileid) {
+                Some(node) => push_names(alloc, entries, cookie, directory, &node.names),
+                None => Ok(()),
+            },
+            Place::SnapshotDirectory => push_snapshots(alloc, entries, cookie, &self.snapshots),
+            Place::Kept(number, fileid) => match self.kept_node(number, fileid) {
+                Some(node) => push_names(alloc, entries, cookie, directory, &node.names),
+                None => Ok(()),
+            },
+        }
+    }
+
+    /// What a directory lists behind a cookie.
+    #[tactic(auto, unfolding(fs_rules::specs::Listing::listing))]
+    fn listed_behind(&self, alloc: Global, o: &Object, cookie: u64) -> Result<Vec<Listed>, NoMemory>
+        ensures { IfOk result (λ entries. entries.items ≡ behind cookie (listing (tree_of self.now) o.now)) }
+    {
+        let mut entries = Vec::new(alloc);
+        let itself = Listed {
+            cookie: 1,
+            name: Text::from_slice(alloc, b".")?,
+            place: o.place,
+        };
+        push_behind(&mut entries, cookie, itself)?;
+        let parent = Listed {
+            cookie: 2,
+            name: Text::from_slice(alloc, b"..")?,
+            place: above(o.place, &o.inode),
+        };
+        push_behind(&mut entries, cookie, parent)?;
+        self.push_names_at(alloc, &mut entries, cookie, o.place)?;
+        Ok(entries)
+    }
+
     /// The entries of a directory that are told: those behind the cookie, as many as fit, where an entry says so
     /// many bytes beside its name.
-    #[tactic(auto, unfolding(fs_rules::specs::Listing::page, crate::specs::Entries::told_of, fs_rules::specs::Places::attributes_at, fs_rules::specs::Attributes::attributes_of))]
+    #[tactic(auto, unfolding(fs_rules::specs::Listing::page))]
     fn page(
         &self,
         alloc: Global,
         cred: &Cred,
         bare: u32,
-        handle: &[u8],
+        directory: &[u8],
         cookie: u64,
         verifier: &[u8],
         count: u32,
-    ) -> Result<Page<'_>, Fault>
-        ensures { GivesOwn page_of (rule.page (tree_of self.now) cred.now (size_with bare) handle.now cookie verifier.now count) result }
+    ) -> Result<Page, Fault>
+        ensures { GivesOwn (table.page (tree_of self.now) cred.now (size_with bare) (record { directory = directory.now; cookie = cookie; verifier = verifier.now; count = count })) result }
     {
-        let directory = self.found(handle)?;
-        as_directory(&directory)?;
-        if !may_do(cred, &self.attributes(&directory), READ) {
-            return Err(Fault::Refused(Status::Acces));
-        }
-        if cookie != 0 && !is_zeros(verifier) {
-            return Err(Fault::Refused(Status::BadCookie));
-        }
-        let left = listed_behind(alloc, &directory, cookie)?;
-        Ok(told_of(directory, left, bare, count)?)
+        let o = self.find_object(directory)?;
+        need_directory(&o)?;
+        need(may_read(cred, &o.inode), Status::Acces)?;
+        need(cookie == 0 || is_zeros(verifier), Status::BadCookie)?;
+        let left = self.listed_behind(alloc, &o, cookie)?;
+        Ok(page_behind(o, bare, count, left)?)
     }
 
     /// READDIR.
@@ -199,7 +217,7 @@ impl Plain {
         cred: &Cred,
         a: &ReadDirArgs<Text>,
     ) -> Result<Body, Fault>
-        ensures { GivesOwn (λ body. body) (rule.read_dir (tree_of self.now) cred.now a.now) result }
+        ensures { GivesOwn (table.read_dir (tree_of self.now) cred.now a.now) result }
     {
         let page = self.page(
             alloc,
@@ -227,7 +245,7 @@ impl Plain {
         cred: &Cred,
         a: &ReadDirPlusArgs<Text>,
     ) -> Result<Body, Fault>
-        ensures { GivesOwn (λ body. body) (rule.read_dir_plus (tree_of self.now) cred.now a.now) result }
+        ensures { GivesOwn (table.read_dir_plus (tree_of self.now) cred.now a.now) result }
     {
         let page = self.page(
             alloc,

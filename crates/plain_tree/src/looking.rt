@@ -1,88 +1,22 @@
 //! Where the names of a directory lead: LOOKUP.
 
-ghost use Rattle.std.specs.Prelude.{◌≡◌};
-ghost use Rattle.fs_rules.specs.Looking as told;
-ghost use Rattle.fs_rules.specs.Names.{is_dot, is_dot_dot, named, names_snapshots};
-ghost use Rattle.fs_rules.specs.Places.{above, beside, is_live_root, is_snapshots_name, led_by, looked_up};
+ghost use Rattle.std.specs.Option.{option_copied};
+ghost use Rattle.std.specs.Prelude.{◌≡◌, option_map, true};
+ghost use Rattle.fs_rules.specs.Checks.{is_live};
+ghost use Rattle.fs_rules.specs.Looking as table;
+ghost use Rattle.fs_rules.specs.Names.{is_dot, is_dot_dot, is_dots, names_snapshots};
+ghost use Rattle.fs_rules.specs.Places.{above, beside, entry_at, is_live_root, is_snapshots_name, place_named};
+ghost use Rattle.fs_rules.specs.Removing as removing;
 ghost use Rattle.plain_tree.specs.Giving.{GivesOwn};
-ghost use Rattle.plain_tree.specs.Seeing.{object};
 
+use crate::checks::{need_directory, need_good_name, need_search};
 use crate::fault::Fault;
-use crate::found::{Found, as_directory, good_name};
+use crate::object::Object;
 use crate::plain::Plain;
-use crate::rights::{SEARCH, may_do};
 use crate::snapshots::snapshot_named;
-use fs_rules::{Name, Place};
+use fs_rules::{Inode, NameEntry, Place};
 use nfs3_types::{Body, Cred, DirOp, LookupOk, Status, Text};
 use std::alloc::Global;
-
-impl<'a> Found<'a> {
-    /// The directory above: the root is above itself, `.snapshot` above a snapshot's root, and the root above it.
-    #[tactic(auto, unfolding(fs_rules::specs::Places::snapshot_directory))]
-    pub fn above(&self) -> Place
-        ensures { result ≡ above (object self.now).place (object self.now).node }
-    {
-        match self {
-            Found::Live(_, node) => Place::Live(node.parent),
-            Found::Snapshots(_) => Place::Live(1),
-            Found::Kept(number, fileid, node) => {
-                if *fileid == 1 {
-                    Place::SnapshotDirectory
-                } else {
-                    Place::Kept(*number, node.parent)
-                }
-            }
-        }
-    }
-
-    /// Where the entry of this name leads.
-    #[tactic(auto, unfolding(fs_rules::specs::Names::named, fs_rules::specs::Places::snapshot_directory))]
-    pub fn led_by(&self, name: &[u8]) -> Option<Place>
-        ensures { result ≡ led_by (object self.now).place (named name.now (object self.now).node) }
-    {
-        match self {
-            Found::Live(_, node) => match node.named(name) {
-                Some(entry) => Some(beside(self.place(), entry)),
-                None => None,
-            },
-            Found::Snapshots(tree) => match snapshot_named(&tree.snapshots, name) {
-                Some(snapshot) => Some(Place::Kept(snapshot.number, 1)),
-                None => None,
-            },
-            Found::Kept(_, _, node) => match node.named(name) {
-                Some(entry) => Some(beside(self.place(), entry)),
-                None => None,
-            },
-        }
-    }
-
-    /// Where a name leads: `.` and `..` are names too, and so is `.snapshot` in the live root.
-    #[tactic(auto, unfolding(fs_rules::specs::Places::looked_up))]
-    pub fn looked_up(&self, name: &[u8]) -> Option<Place>
-        ensures { result ≡ looked_up (object self.now) name.now }
-    {
-        if is_dot(name) {
-            Some(self.place())
-        } else if is_dot_dot(name) {
-            Some(self.above())
-        } else if is_snapshots_name(self.place(), name) {
-            Some(Place::SnapshotDirectory)
-        } else {
-            self.led_by(name)
-        }
-    }
-}
-
-/// Where an entry of a directory leads; the entries of `.snapshot` have the cookies number + 2.
-pub fn beside(place: Place, entry: &Name) -> Place
-    ensures { result ≡ beside place entry.now }
-{
-    match place {
-        Place::Live(_) => Place::Live(entry.fileid),
-        Place::SnapshotDirectory => Place::Kept(entry.cookie.saturating_sub(2), entry.fileid),
-        Place::Kept(number, _) => Place::Kept(number, entry.fileid),
-    }
-}
 
 /// The name of a directory in itself.
 pub fn is_dot(name: &[u8]) -> bool
@@ -98,15 +32,22 @@ pub fn is_dot_dot(name: &[u8]) -> bool
     name == b"..".as_slice()
 }
 
+/// The names of a directory in itself and of the directory above.
+pub fn is_dots(name: &[u8]) -> bool
+    ensures { result ≡ is_dots name.now }
+{
+    is_dot(name) || is_dot_dot(name)
+}
+
 /// The name of the directory of snapshots.
-pub fn names_snapshots(name: &[u8]) -> bool
+fn names_snapshots(name: &[u8]) -> bool
     ensures { result ≡ names_snapshots name.now }
 {
     name == b".snapshot".as_slice()
 }
 
 /// Whether this is the live root.
-pub fn is_live_root(place: Place) -> bool
+fn is_live_root(place: Place) -> bool
     ensures { result ≡ is_live_root place }
 {
     match place {
@@ -123,31 +64,127 @@ pub fn is_snapshots_name(place: Place, name: &[u8]) -> bool
     is_live_root(place) && names_snapshots(name)
 }
 
+/// The directory above: the root is above itself, `.snapshot` above a snapshot's root, and the root above it.
+pub fn above(place: Place, i: &Inode) -> Place
+    ensures { result ≡ above place i.now }
+{
+    match place {
+        Place::Live(_) => Place::Live(i.parent),
+        Place::SnapshotDirectory => Place::Live(1),
+        Place::Kept(number, fileid) => {
+            if fileid == 1 {
+                Place::SnapshotDirectory
+            } else {
+                Place::Kept(number, i.parent)
+            }
+        }
+    }
+}
+
+/// Where an entry of a directory leads: one of `.snapshot` to the snapshot's root.
+pub fn beside(directory: Place, e: &NameEntry) -> Place
+    ensures { result ≡ beside directory e.now }
+{
+    match directory {
+        Place::Live(_) => Place::Live(e.fileid),
+        Place::SnapshotDirectory => Place::Kept(e.fileid, 1),
+        Place::Kept(number, _) => Place::Kept(number, e.fileid),
+    }
+}
+
 impl Plain {
     ghost use Rattle.plain_tree.specs.Trees.{tree_of};
 
-    /// LOOKUP.
-    #[tactic(auto, unfolding(fs_rules::specs::Looking::lookup, fs_rules::specs::Attributes::attributes_of, fs_rules::specs::Places::attributes_at))]
-    pub(crate) fn lookup(&self, alloc: Global, cred: &Cred, a: &DirOp<Text>) -> Result<Body, Fault>
-        ensures { GivesOwn (λ body. body) (told.lookup (tree_of self.now) cred.now a.now) result }
+    /// The entry of a name in a directory of the live tree.
+    #[tactic(auto, unfolding(fs_rules::specs::Places::entry_at, fs_rules::specs::Places::node_at, fs_rules::specs::Names::named))]
+    pub(crate) fn entry_at(&self, directory: Place, name: &[u8]) -> Option<&NameEntry>
+        requires { is_live directory ≡ true }
+        ensures { option_copied result ≡ entry_at (tree_of self.now) directory name.now }
     {
-        let directory = self.found(a.directory.as_slice())?;
-        as_directory(&directory)?;
-        good_name(a.name.as_slice())?;
-        let attributes = self.attributes(&directory);
-        if !may_do(cred, &attributes, SEARCH) {
-            return Err(Fault::Refused(Status::Acces));
+        match directory {
+            Place::Live(fileid) => match self.nodes.get(fileid) {
+                Some(node) => node.named(name),
+                None => None,
+            },
+            Place::SnapshotDirectory => None,
+            Place::Kept(_, _) => None,
         }
-        let Some(place) = directory.looked_up(a.name.as_slice()) else {
+    }
+
+    /// Where the entry of a name leads, in any directory.
+    #[tactic(auto, unfolding(fs_rules::specs::Places::entry_at, fs_rules::specs::Places::node_at, fs_rules::specs::Places::snapshot_directory, fs_rules::specs::Names::named))]
+    fn place_by_entry(&self, directory: Place, name: &[u8]) -> Option<Place>
+        ensures { result ≡ option_map (beside directory) (entry_at (tree_of self.now) directory name.now) }
+    {
+        match directory {
+            Place::Live(fileid) => match self.nodes.get(fileid) {
+                Some(node) => node.named(name).map(|e| beside(directory, e)),
+                None => None,
+            },
+            Place::SnapshotDirectory => match snapshot_named(&self.snapshots, name) {
+                Some(snapshot) => Some(Place::Kept(snapshot.number, 1)),
+                None => None,
+            },
+            Place::Kept(number, fileid) => match self.kept_node(number, fileid) {
+                Some(node) => node.named(name).map(|e| beside(directory, e)),
+                None => None,
+            },
+        }
+    }
+
+    /// Where a name leads: `.` and `..` are names too, and so is `.snapshot` in the live root.
+    #[tactic(auto, unfolding(fs_rules::specs::Places::place_named))]
+    fn place_named(&self, directory: &Object, name: &[u8]) -> Option<Place>
+        ensures { result ≡ place_named (tree_of self.now) directory.now name.now }
+    {
+        if is_dot(name) {
+            Some(directory.place)
+        } else if is_dot_dot(name) {
+            Some(above(directory.place, &directory.inode))
+        } else if is_snapshots_name(directory.place, name) {
+            Some(Place::SnapshotDirectory)
+        } else {
+            self.place_by_entry(directory.place, name)
+        }
+    }
+
+    /// Whether a directory has names.
+    #[tactic(auto, unfolding(fs_rules::specs::Places::node_at, fs_rules::specs::Places::snapshot_directory))]
+    pub(crate) fn has_names(&self, place: Place) -> bool
+        ensures { result ≡ removing.has_names (tree_of self.now) place }
+    {
+        match place {
+            Place::Live(fileid) => match self.nodes.get(fileid) {
+                Some(node) => node.has_names(),
+                None => false,
+            },
+            Place::SnapshotDirectory => !self.snapshots.is_empty(),
+            Place::Kept(number, fileid) => match self.kept_node(number, fileid) {
+                Some(node) => node.has_names(),
+                None => false,
+            },
+        }
+    }
+
+    /// LOOKUP.
+    #[tactic(auto, unfolding(fs_rules::specs::Looking::lookup))]
+    pub(crate) fn lookup(&self, alloc: Global, cred: &Cred, a: &DirOp<Text>) -> Result<Body, Fault>
+        ensures { GivesOwn (table.lookup (tree_of self.now) cred.now a.now) result }
+    {
+        let directory = self.find_object(a.directory.as_slice())?;
+        need_directory(&directory)?;
+        need_good_name(a.name.as_slice())?;
+        need_search(cred, &directory)?;
+        let Some(place) = self.place_named(&directory, a.name.as_slice()) else {
             return Err(Fault::Refused(Status::NoEnt));
         };
-        let Some(f) = self.object_at(place) else {
+        let Some(o) = self.object_at(place) else {
             return Err(Fault::Refused(Status::NoEnt));
         };
         Ok(Body::Lookup(LookupOk {
-            object: self.handle_at(alloc, f.place())?,
-            attributes: Some(self.attributes(&f)),
-            directory: Some(attributes),
+            object: self.handle_at(alloc, o.place)?,
+            attributes: Some(self.attributes(&o)),
+            directory: Some(self.attributes(&directory)),
         }))
     }
 }

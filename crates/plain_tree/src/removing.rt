@@ -1,60 +1,39 @@
-//! REMOVE, and RMDIR outside of `.snapshot`.
+//! REMOVE, and RMDIR outside of `.snapshot`. They take no memory.
 
-ghost use Rattle.std.specs.Prelude.{◌≡◌};
-ghost use Rattle.fs_rules.specs.Names.{is_dots};
+ghost use Rattle.std.specs.Prelude.{◌≡◌, true};
+ghost use Rattle.fs_rules.specs.Checks.{Does, is_live};
 ghost use Rattle.fs_rules.specs.Removing as table;
-ghost use Rattle.plain_tree.specs.Giving.{Does, Gives};
-ghost use Rattle.plain_tree.specs.Seeing.{live_node};
 
-use crate::fault::Fault;
-use crate::found::FoundLive;
-use crate::looking::{is_dot, is_dot_dot, is_snapshots_name};
-use crate::outcome::change;
+use crate::checks::{is_directory, need, need_place_for, refuse_if};
+use crate::looking::{is_dot, is_dot_dot, is_dots, is_snapshots_name};
+use crate::object::Object;
 use crate::plain::Plain;
-use crate::rights::{SEARCH, WRITE, may_do};
-use fs_rules::{Place, RemovePlan};
-use nfs3_types::{Body, Cred, DirOp, FileType, Moment, Status, Text};
+use fs_rules::{Inode, Place, RemovePlan, may_search, may_write, wcc_of};
+use nfs3_types::{Body, Cred, DirOp, Moment, Status, Text};
 
-/// The names of a directory in itself and of the directory above.
-pub fn is_dots(name: &[u8]) -> bool
-    ensures { result ≡ is_dots name.now }
+/// Whether the caller may take names out of a directory and put others in.
+pub fn may_alter(cred: &Cred, directory: &Inode) -> bool
+    ensures { result ≡ table.may_alter cred.now directory.now }
 {
-    is_dot(name) || is_dot_dot(name)
+    may_write(cred, directory) && may_search(cred, directory)
 }
 
 impl Plain {
     ghost use Rattle.plain_tree.specs.Trees.{tree_of};
 
-    /// Whether the caller may not take names out of a directory and put others in.
-    #[tactic(auto, unfolding(fs_rules::specs::Attributes::attributes_of, fs_rules::specs::Places::attributes_at))]
-    pub(crate) fn lacks_change(&self, cred: &Cred, directory: &FoundLive<'_>) -> bool
-        ensures { result ≡ table.lacks_change cred.now directory.now.node.now }
-    {
-        let a = self.live_attributes(directory);
-        !(may_do(cred, &a, WRITE) && may_do(cred, &a, SEARCH))
-    }
-
     /// What a name leads to, where the caller may take the name away.
-    #[tactic(auto, unfolding(fs_rules::specs::Removing::removable))]
-    fn removable<'a>(
-        &'a self,
-        cred: &Cred,
-        directory: &FoundLive<'_>,
-        name: &[u8],
-    ) -> Result<FoundLive<'a>, Status>
-        ensures { Gives live_node (table.removable (tree_of self.now) cred.now (live_node directory.now) name.now) result }
+    #[tactic(auto, unfolding(fs_rules::specs::Removing::find_removable))]
+    fn find_removable(&self, cred: &Cred, directory: &Object, name: &[u8]) -> Result<Object, Status>
+        requires { is_live directory.now.place ≡ true }
+        ensures { result ≡ table.find_removable (tree_of self.now) cred.now directory.now name.now }
     {
-        if is_snapshots_name(Place::Live(directory.fileid), name) {
-            return Err(Status::Acces);
-        }
-        if self.lacks_change(cred, directory) {
-            return Err(Status::Acces);
-        }
-        let Some(entry) = directory.node.named(name) else {
+        refuse_if(is_snapshots_name(directory.place, name), Status::Acces)?;
+        need(may_alter(cred, &directory.inode), Status::Acces)?;
+        let Some(e) = self.entry_at(directory.place, name) else {
             return Err(Status::NoEnt);
         };
-        match self.live_node(entry.fileid) {
-            Some(l) => Ok(l),
+        match self.object_at(Place::Live(e.fileid)) {
+            Some(o) => Ok(o),
             None => Err(Status::NoEnt),
         }
     }
@@ -62,99 +41,91 @@ impl Plain {
     /// What REMOVE is going to do.
     #[tactic(auto, unfolding(fs_rules::specs::Removing::remove_plan))]
     fn remove_plan(&self, cred: &Cred, a: &DirOp<Text>) -> Result<RemovePlan, Status>
-        ensures { Gives (λ plan. plan) (table.remove_plan (tree_of self.now) cred.now a.now) result }
+        ensures { result ≡ table.remove_plan (tree_of self.now) cred.now a.now }
     {
-        let directory = self.live_directory(a)?;
         let name = a.name.as_slice();
-        if is_dots(name) {
-            return Err(Status::Inval);
-        }
-        let l = self.removable(cred, &directory, name)?;
-        if l.node.kind() == FileType::Dir {
-            return Err(Status::IsDir);
-        }
+        let directory = self.find_directory(a)?;
+        refuse_if(is_dots(name), Status::Inval)?;
+        let o = self.find_removable(cred, &directory, name)?;
+        refuse_if(is_directory(o.inode.kind), Status::IsDir)?;
         Ok(RemovePlan {
-            directory: directory.fileid,
-            fileid: l.fileid,
+            directory: directory.place.fileid(),
+            fileid: o.place.fileid(),
         })
     }
 
     /// The name of a file goes.
-    #[tactic(auto, unfolding(fs_rules::specs::Removing::removed, fs_rules::specs::Removing::lose_name, fs_rules::specs::Edits::at_node))]
-    pub(crate) fn removed(&mut self, directory: u64, name: &[u8], fileid: u64, now: Moment)
-        ensures { tree_of self.new ≡ table.removed now directory name.now fileid (tree_of self.old) }
+    #[tactic(auto, unfolding(fs_rules::specs::Removing::remove_file, fs_rules::specs::Removing::lose_name, fs_rules::specs::Edits::edit_node))]
+    pub(crate) fn remove_file(&mut self, directory: u64, name: &[u8], fileid: u64, now: Moment)
+        ensures { tree_of self.new ≡ table.remove_file now directory name.now fileid (tree_of self.old) }
     {
-        self.nodes.lose_name(fileid, now);
-        self.nodes.forget(directory, name, now);
+        self.nodes.lose_link(fileid, now);
+        self.nodes.drop_name(directory, name, now);
     }
 
-    /// REMOVE. It takes no memory.
-    #[tactic(auto, unfolding(fs_rules::specs::Removing::remove, fs_rules::specs::Outcomes::change))]
+    /// REMOVE.
+    #[tactic(auto, unfolding(fs_rules::specs::Removing::remove))]
     pub(crate) fn remove(
         &mut self,
         cred: &Cred,
         a: &DirOp<Text>,
         now: Moment,
-    ) -> Result<Body, Fault>
-        ensures { Does 12 (table.remove (tree_of self.old) cred.now a.now now) (tree_of self.old) (tree_of self.new) result }
+    ) -> Result<Body, Status>
+        ensures { Does (table.remove (tree_of self.old) cred.now a.now now) (tree_of self.old) (tree_of self.new) result }
     {
         let plan = self.remove_plan(cred, a)?;
         let place = Place::Live(plan.directory);
         let before = self.shown(place);
-        self.removed(plan.directory, a.name.as_slice(), plan.fileid, now);
-        Ok(Body::Remove(change(before, self.shown(place))))
+        self.remove_file(plan.directory, a.name.as_slice(), plan.fileid, now);
+        Ok(Body::Remove(wcc_of(before, self.shown(place))))
     }
 
     /// What RMDIR is going to do.
-    #[tactic(auto, unfolding(fs_rules::specs::Removing::rmdir_plan))]
-    fn rmdir_plan(&self, cred: &Cred, a: &DirOp<Text>) -> Result<RemovePlan, Status>
-        ensures { Gives (λ plan. plan) (table.rmdir_plan (tree_of self.now) cred.now a.now) result }
+    #[tactic(auto, unfolding(fs_rules::specs::Removing::remove_directory_plan))]
+    fn remove_directory_plan(
+        &self,
+        cred: &Cred,
+        name: &[u8],
+        directory: &Object,
+    ) -> Result<RemovePlan, Status>
+        ensures { result ≡ table.remove_directory_plan (tree_of self.now) cred.now name.now directory.now }
     {
-        let directory = self.live_directory(a)?;
-        let name = a.name.as_slice();
-        if is_dot(name) {
-            return Err(Status::Inval);
-        }
-        if is_dot_dot(name) {
-            return Err(Status::Exist);
-        }
-        let l = self.removable(cred, &directory, name)?;
-        if l.node.kind() != FileType::Dir {
-            return Err(Status::NotDir);
-        }
-        if l.node.has_names() {
-            return Err(Status::NotEmpty);
-        }
+        need_place_for(directory, name)?;
+        refuse_if(is_dot(name), Status::Inval)?;
+        refuse_if(is_dot_dot(name), Status::Exist)?;
+        let o = self.find_removable(cred, directory, name)?;
+        need(is_directory(o.inode.kind), Status::NotDir)?;
+        refuse_if(self.has_names(o.place), Status::NotEmpty)?;
         Ok(RemovePlan {
-            directory: directory.fileid,
-            fileid: l.fileid,
+            directory: directory.place.fileid(),
+            fileid: o.place.fileid(),
         })
     }
 
     /// An empty directory and its name go.
-    #[tactic(auto, unfolding(fs_rules::specs::Removing::directory_removed, fs_rules::specs::Edits::at_node, fs_rules::specs::Edits::drop_node))]
-    pub(crate) fn directory_removed(
-        &mut self,
-        directory: u64,
-        name: &[u8],
-        fileid: u64,
-        now: Moment,
-    )
-        ensures { tree_of self.new ≡ table.directory_removed now directory name.now fileid (tree_of self.old) }
+    #[tactic(auto, unfolding(fs_rules::specs::Removing::drop_directory, fs_rules::specs::Edits::edit_node, fs_rules::specs::Edits::drop_node))]
+    pub(crate) fn drop_directory(&mut self, directory: u64, name: &[u8], fileid: u64, now: Moment)
+        ensures { tree_of self.new ≡ table.drop_directory now directory name.now fileid (tree_of self.old) }
     {
         self.nodes.remove(fileid);
-        self.nodes.forget_directory(directory, name, now);
+        self.nodes.drop_subdirectory(directory, name, now);
     }
 
-    /// RMDIR outside of `.snapshot`. It takes no memory.
-    #[tactic(auto, unfolding(fs_rules::specs::Removing::rmdir, fs_rules::specs::Outcomes::change))]
-    pub(crate) fn rmdir(&mut self, cred: &Cred, a: &DirOp<Text>, now: Moment) -> Result<Body, Fault>
-        ensures { Does 13 (table.rmdir (tree_of self.old) cred.now a.now now) (tree_of self.old) (tree_of self.new) result }
+    /// RMDIR outside of `.snapshot`, once its directory is found.
+    #[tactic(auto, unfolding(fs_rules::specs::Removing::remove_directory))]
+    pub(crate) fn remove_directory(
+        &mut self,
+        cred: &Cred,
+        name: &[u8],
+        now: Moment,
+        directory: &Object,
+    ) -> Result<Body, Status>
+        ensures { Does (table.remove_directory (tree_of self.old) cred.now name.now now directory.now) (tree_of self.old) (tree_of self.new) result }
     {
-        let plan = self.rmdir_plan(cred, a)?;
+        let plan = self.remove_directory_plan(cred, name, directory)?;
         let place = Place::Live(plan.directory);
         let before = self.shown(place);
-        self.directory_removed(plan.directory, a.name.as_slice(), plan.fileid, now);
-        Ok(Body::Rmdir(change(before, self.shown(place))))
+        self.drop_directory(plan.directory, name, plan.fileid, now);
+        Ok(Body::Rmdir(wcc_of(before, self.shown(place))))
     }
 }

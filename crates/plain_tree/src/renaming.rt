@@ -1,114 +1,141 @@
 //! RENAME.
 
-ghost use Rattle.std.specs.Prelude.{◌≡◌, ◌+◌, ◌^◌, ◌<◌, ◌||◌, false, true, Some, option_map, IfOk, IfSome, OnErr, OnOk};
-ghost use Rattle.fs_rules.specs.Names.{named};
-ghost use Rattle.fs_rules.specs.declared.plans.RenamePlan.TheVariants.{Same, Moved};
+ghost use Rattle.std.specs.Option.{option_copied};
+ghost use Rattle.std.specs.Prelude.{◌≡◌, ◌+◌, ◌||◌, if◌then◌else◌, true, false, option_map, Ok, IfOk, IfSome, OnErr, OnOk};
+ghost use Rattle.fs_rules.specs.Attributes.{given};
+ghost use Rattle.fs_rules.specs.Checks.{is_live};
+ghost use Rattle.fs_rules.specs.Places.{entry_at, fileid_at};
+ghost use Rattle.fs_rules.specs.Limits.{deepest};
 ghost use Rattle.fs_rules.specs.Renaming as table;
+ghost use Rattle.plain_nodes.specs.Needs.{HasLink};
 ghost use Rattle.plain_nodes.specs.Nodes.{nodes_of};
-ghost use Rattle.plain_tree.specs.Giving.{Does, Gives};
-ghost use Rattle.plain_tree.specs.Moving.{directories_of, renaming_of};
-ghost use Rattle.plain_tree.specs.Needs.{CanMove, CanRename};
-ghost use Rattle.plain_tree.specs.Seeing.{live_node};
+ghost use Rattle.plain_tree.specs.Giving.{DoesOwn};
+ghost use Rattle.plain_tree.specs.Needs.{CanMove, HasOpenWay, Stands};
 
+use crate::checks::{is_directory, need, need_directory, need_good_name, need_live, refuse_if};
 use crate::fault::Fault;
-use crate::found::{FoundLive, as_directory, good_name, live};
-use crate::linking::lacks_cookies;
-use crate::looking::is_snapshots_name;
-use crate::outcome::change;
+use crate::looking::{is_dots, is_snapshots_name};
+use crate::making::lacks_cookies;
+use crate::object::Object;
 use crate::plain::Plain;
-use crate::removing::is_dots;
-use fs_rules::{Move, Place, RenamePlan, Replaced};
-use nfs3_types::{Body, Cred, FileType, Moment, NoMemory, RenameArgs, RenameOk, Status, Text};
-use plain_nodes::limits::{DEEPEST, MOST_LINKS};
-use plain_nodes::{Node, Nodes};
+use crate::removing::may_alter;
+use fs_rules::limits::{DEEPEST, MOST_LINKS};
+use fs_rules::{Climb, Place, RenamePlan, Replaced, wcc_of};
+use nfs3_types::{Body, Cred, Moment, NoMemory, RenameArgs, RenameOk, Status, Text};
+use plain_nodes::Nodes;
 use std::alloc::Global;
-
-/// The directories of both names.
-#[derive(Drop)]
-pub struct Directories<'a> {
-    /// The directory of the old name.
-    pub from: FoundLive<'a>,
-    /// The directory of the new name.
-    pub to: FoundLive<'a>,
-}
+use std::marker::Model;
 
 /// A node that gets another name.
 #[derive(Drop)]
-pub struct Renaming<'a> {
+pub struct Renaming {
     /// Its directory.
-    pub from: FoundLive<'a>,
+    pub from: Object,
     /// The directory of the new name.
-    pub to: FoundLive<'a>,
+    pub to: Object,
     /// The node.
-    pub source: FoundLive<'a>,
+    pub source: Object,
     /// What has the new name.
-    pub target: Option<FoundLive<'a>>,
+    pub target: Option<Object>,
 }
 
-/// Whether a directory is another one, or stands above it, at most so many levels up to the root.
-#[tactic(auto, using(crate::proofs::Lines::line_step, crate::proofs::Lines::line_end))]
-pub fn is_above(nodes: &Nodes, above: u64, fileid: u64, most: u32) -> bool
-    ensures { result ≡ table.is_in above (table.line (nodes_of nodes.now) most fileid) }
+impl Model for Renaming {
+    ghost use Rattle.fs_rules.specs.Renaming.{Renaming};
+
+    ghost Value = { Renaming };
+
+    ghost view = { λ r. record {
+      from = r.from;
+      to = r.to;
+      source = r.source;
+      target = r.target;
+    } };
+}
+
+/// The way leads through the directory that was sought, if this is it.
+fn through(here: bool, way: Climb) -> Climb
+    ensures { result ≡ table.through here way }
+{
+    match way {
+        Climb::Root => { if here { Climb::Found } else { Climb::Root } }
+        Climb::TooDeep => Climb::TooDeep,
+        Climb::Found => Climb::Found,
+    }
+}
+
+/// Whether the way has led through the directory that is sought, here or before.
+fn passes(here: bool, before: bool) -> bool
+    ensures { result ≡ (here || before) }
+{
+    here || before
+}
+
+/// The way from a directory up to the root, of so many at most, the root with them, and whether it leads through
+/// the directory that is sought.
+#[tactic(auto, using(crate::proofs::Lines::climb_step, crate::proofs::Lines::climb_root, crate::proofs::Lines::climb_end))]
+pub fn climb(nodes: &Nodes, sought: u64, most: u32, fileid: u64) -> Climb
+    ensures { result ≡ table.climb (nodes_of nodes.now) sought most fileid }
 {
     let mut at = fileid;
     let mut left = most;
+    let mut is_through = false;
     while left > 0 {
-        if at == above {
-            return true;
-        }
+        is_through = passes(at == sought, is_through);
         if at == 1 {
-            return false;
+            return through(is_through, Climb::Root);
         }
         at = nodes.parent_of(at);
         left -= 1;
     }
-    false
+    Climb::TooDeep
 }
 
-/// Whether the source cannot take the place of what has the new name: one of the two is a directory and the other
-/// is not, or it is a directory that is not empty.
-fn is_in_the_way(source: &Node, target: &Node) -> bool
-    ensures { result ≡ table.is_in_the_way source.now (Some (record { fileid = 0; node = target.now })) }
+/// A directory is not moved too deep, and not into itself or below itself.
+fn allow_move(way: Climb) -> Result<(), Status>
+    ensures { result ≡ table.allow_move way }
 {
-    let is_directory = target.kind() == FileType::Dir;
-    is_directory != (source.kind() == FileType::Dir) || (is_directory && target.has_names())
+    match way {
+        Climb::TooDeep => Err(Status::NameTooLong),
+        Climb::Found => Err(Status::Inval),
+        Climb::Root => Ok(()),
+    }
 }
 
-impl<'a> Renaming<'a> {
-    /// Whether a directory gets another parent.
-    fn reparents(&self) -> bool
-        ensures { result ≡ table.reparents (renaming_of self.now) }
-    {
-        self.source.node.kind() == FileType::Dir && self.from.fileid != self.to.fileid
+/// What goes for the source.
+fn replaced_by(o: &Object) -> Replaced
+    ensures { result ≡ table.replaced_by o.now }
+{
+    Replaced {
+        fileid: o.place.fileid(),
+        is_directory: is_directory(o.inode.kind),
     }
+}
 
-    /// Whether what has the new name cannot go for the source.
-    fn is_hindered(&self) -> bool
-        ensures { result ≡ table.is_in_the_way self.now.source.node.now (renaming_of self.now).target }
+impl Renaming {
+    /// Whether both names are the node's already.
+    fn is_same_node(&self) -> bool
+        ensures { result ≡ table.is_same_node self.now }
     {
         match &self.target {
-            Some(l) => is_in_the_way(self.source.node, l.node),
+            Some(o) => o.place.fileid() == self.source.place.fileid(),
             None => false,
         }
     }
 
-    /// What of it is done.
-    fn to_move(&self) -> Move
-        ensures { result ≡ table.move_of (renaming_of self.now) }
+    /// Whether a directory gets another parent.
+    fn reparents(&self) -> bool
+        ensures { result ≡ table.reparents self.now }
     {
-        let replaced = match &self.target {
-            Some(l) => Some(Replaced {
-                fileid: l.fileid,
-                is_directory: l.node.kind() == FileType::Dir,
-            }),
+        is_directory(self.source.inode.kind) && self.from.place.fileid() != self.to.place.fileid()
+    }
+
+    /// What has the new name, and goes.
+    fn replaced(&self) -> Option<Replaced>
+        ensures { result ≡ option_map table.replaced_by self.now.target }
+    {
+        match &self.target {
+            Some(o) => Some(replaced_by(o)),
             None => None,
-        };
-        Move {
-            from: self.from.fileid,
-            to: self.to.fileid,
-            fileid: self.source.fileid,
-            reparents: self.reparents(),
-            replaced,
         }
     }
 }
@@ -116,133 +143,130 @@ impl<'a> Renaming<'a> {
 impl Plain {
     ghost use Rattle.plain_tree.specs.Trees.{tree_of};
 
-    /// The directories of both names.
-    #[tactic(auto, unfolding(fs_rules::specs::Renaming::live_directories))]
-    fn live_directories(&self, a: &RenameArgs<Text>) -> Result<Directories<'_>, Status>
-        ensures check { Gives directories_of (table.live_directories (tree_of self.now) a.now) result }
-        ensures to { IfOk result (λ d. nodes_of self.now.nodes d.to.fileid ≡ Some d.to.node.now) }
+    /// What has a name in a directory of the live tree.
+    fn target_at(&self, directory: Place, name: &[u8]) -> Option<Object>
+        requires { is_live directory ≡ true }
+        ensures { result ≡ table.target_at (tree_of self.now) (entry_at (tree_of self.now) directory name.now) }
     {
-        let first = self.found(a.from.directory.as_slice())?;
-        let second = self.found(a.to.directory.as_slice())?;
-        as_directory(&first)?;
-        as_directory(&second)?;
-        let from = live(&first)?;
-        let to = live(&second)?;
-        good_name(a.from.name.as_slice())?;
-        good_name(a.to.name.as_slice())?;
-        Ok(Directories { from, to })
+        match self.entry_at(directory, name) {
+            Some(e) => self.object_at(Place::Live(e.fileid)),
+            None => None,
+        }
     }
 
-    /// The caller may take the one name away and make the other.
-    #[tactic(auto, unfolding(fs_rules::specs::Renaming::may_rename))]
-    fn may_rename(
-        &self,
-        cred: &Cred,
-        d: &Directories<'_>,
-        a: &RenameArgs<Text>,
-    ) -> Result<(), Status>
-        ensures { result ≡ table.may_rename cred.now (directories_of d.now) a.now }
+    /// What is found: first the directories of both names, then what has them.
+    #[tactic(auto, unfolding(fs_rules::specs::Renaming::find_renaming))]
+    fn find_renaming(&self, cred: &Cred, a: &RenameArgs<Text>) -> Result<Renaming, Status>
+        ensures check { result ≡ table.find_renaming (tree_of self.now) cred.now a.now }
+        ensures stands { IfOk result (λ r. Stands (tree_of self.now) r.to) }
+        ensures live { IfOk result (λ r. is_live r.to.place ≡ true) }
     {
-        let from = a.from.name.as_slice();
-        let to = a.to.name.as_slice();
-        if is_dots(from) || is_dots(to) {
-            return Err(Status::Inval);
-        }
-        if is_snapshots_name(Place::Live(d.from.fileid), from)
-            || is_snapshots_name(Place::Live(d.to.fileid), to)
-        {
-            return Err(Status::Acces);
-        }
-        if self.lacks_change(cred, &d.from) {
-            return Err(Status::Acces);
-        }
-        if self.lacks_change(cred, &d.to) {
-            return Err(Status::Acces);
-        }
-        Ok(())
-    }
-
-    /// The move can be made.
-    #[tactic(auto, unfolding(fs_rules::specs::Renaming::movable, fs_rules::specs::Limits::most_links, fs_rules::specs::Limits::deepest))]
-    fn movable(&self, r: &Renaming<'_>) -> Result<RenamePlan, Status>
-        requires { nodes_of self.now.nodes r.now.to.fileid ≡ Some r.now.to.node.now }
-        ensures plan { Gives (λ plan. plan) (table.movable (tree_of self.now) (renaming_of r.now)) result }
-        ensures ready { IfOk result (CanRename (nodes_of self.now.nodes)) }
-    {
-        let reparents = r.reparents();
-        let to = r.to.fileid;
-        let directory = r.to.node;
-        let links = directory.nlink;
-        if reparents && !is_above(&self.nodes, 1, to, DEEPEST + 1) {
-            return Err(Status::NameTooLong);
-        }
-        if reparents && is_above(&self.nodes, r.source.fileid, to, DEEPEST + 1) {
-            return Err(Status::Inval);
-        }
-        if r.is_hindered() {
-            return Err(Status::Exist);
-        }
-        if reparents && r.target.is_none() && links >= MOST_LINKS {
-            return Err(Status::MLink);
-        }
-        if lacks_cookies(directory) {
-            return Err(Status::NoSpc);
-        }
-        Ok(RenamePlan::Moved(r.to_move()))
-    }
-
-    /// What RENAME is going to do with a node that is there.
-    #[tactic(auto, unfolding(fs_rules::specs::Renaming::renamed))]
-    fn renamed<'a>(
-        &'a self,
-        d: Directories<'a>,
-        source: FoundLive<'a>,
-        target: Option<FoundLive<'a>>,
-    ) -> Result<RenamePlan, Status>
-        requires { nodes_of self.now.nodes d.to.fileid ≡ Some d.to.node.now }
-        ensures ready { IfOk result (CanRename (nodes_of self.now.nodes)) }
-        ensures plan { Gives (λ plan. plan) (table.renamed (tree_of self.now) (directories_of d.entry) (live_node source.entry) (option_map live_node target.entry)) result }
-    {
-        if let Some(l) = &target {
-            if l.fileid == source.fileid {
-                return Ok(RenamePlan::Same(d.from.fileid, d.to.fileid));
-            }
-        }
-        self.movable(&Renaming {
-            from: d.from,
-            to: d.to,
+        let old = a.from.name.as_slice();
+        let new = a.to.name.as_slice();
+        let from = self.find_object(a.from.directory.as_slice())?;
+        let to = self.find_object(a.to.directory.as_slice())?;
+        need_directory(&from)?;
+        need_directory(&to)?;
+        need_live(&from)?;
+        need_live(&to)?;
+        need_good_name(old)?;
+        need_good_name(new)?;
+        refuse_if(is_dots(old) || is_dots(new), Status::Inval)?;
+        refuse_if(
+            is_snapshots_name(from.place, old) || is_snapshots_name(to.place, new),
+            Status::Acces,
+        )?;
+        need(may_alter(cred, &from.inode), Status::Acces)?;
+        need(may_alter(cred, &to.inode), Status::Acces)?;
+        let Some(e) = self.entry_at(from.place, old) else {
+            return Err(Status::NoEnt);
+        };
+        let Some(source) = self.object_at(Place::Live(e.fileid)) else {
+            return Err(Status::NoEnt);
+        };
+        let target = self.target_at(to.place, new);
+        Ok(Renaming {
+            from,
+            to,
             source,
             target,
         })
     }
 
-    /// What has the new name.
-    fn target_of(&self, to: &FoundLive<'_>, name: &[u8]) -> Option<FoundLive<'_>>
-        ensures { option_map live_node result ≡ table.target_of (tree_of self.now) (named name.now to.now.node.now) }
+    /// Whether what has the new name cannot go for the source: one of the two is a directory and the other is not,
+    /// or it is a directory that is not empty.
+    fn is_in_the_way(&self, r: &Renaming) -> bool
+        ensures { result ≡ given r.now.target (table.is_in_the_way (tree_of self.now) r.now.source) }
     {
-        match to.node.named(name) {
-            Some(entry) => self.live_node(entry.fileid),
-            None => None,
+        match &r.target {
+            Some(o) => {
+                let is_above = is_directory(o.inode.kind);
+                is_above != is_directory(r.source.inode.kind)
+                    || (is_above && self.has_names(o.place))
+            }
+            None => false,
         }
     }
 
-    /// What RENAME is going to do.
+    /// A directory that gets another parent is not moved too deep, and not into itself or below itself.
+    #[tactic(auto, unfolding(fs_rules::specs::Limits::deepest))]
+    fn need_way(&self, r: &Renaming) -> Result<(), Status>
+        ensures { result ≡ (if table.reparents r.now then table.allow_move (table.climb (tree_of self.now).nodes (fileid_at r.now.source.place) (deepest + 1) (fileid_at r.now.to.place)) else Ok tt) }
+    {
+        if !r.reparents() {
+            return Ok(());
+        }
+        let source = r.source.place.fileid();
+        allow_move(climb(&self.nodes, source, DEEPEST + 1, r.to.place.fileid()))
+    }
+
+    /// What is found can be done.
+    #[tactic(auto, unfolding(fs_rules::specs::Renaming::need_room, fs_rules::specs::Limits::most_links))]
+    fn need_room(&self, r: &Renaming) -> Result<(), Status>
+        ensures check { result ≡ table.need_room (tree_of self.now) r.now }
+        ensures room { OnOk result (HasOpenWay (tree_of self.now) r.now) }
+    {
+        let links = r.to.nlink();
+        self.need_way(r)?;
+        refuse_if(self.is_in_the_way(r), Status::Exist)?;
+        refuse_if(
+            r.reparents() && r.target.is_none() && links >= MOST_LINKS,
+            Status::MLink,
+        )?;
+        refuse_if(lacks_cookies(&r.to.inode), Status::NoSpc)?;
+        Ok(())
+    }
+
+    /// What is found can be done; where both names are one node's, nothing is asked any more.
+    fn need_other_room(&self, r: &Renaming) -> Result<(), Status>
+        ensures check { result ≡ (if table.is_same_node r.now then Ok tt else table.need_room (tree_of self.now) r.now) }
+        ensures room { OnOk result (table.is_same_node r.now ≡ false → HasOpenWay (tree_of self.now) r.now) }
+    {
+        if r.is_same_node() {
+            return Ok(());
+        }
+        self.need_room(r)
+    }
+
+    /// What RENAME is going to do; where both names are one node's, nothing is asked any more.
     #[tactic(auto, unfolding(fs_rules::specs::Renaming::rename_plan))]
     fn rename_plan(&self, cred: &Cred, a: &RenameArgs<Text>) -> Result<RenamePlan, Status>
-        ensures ready { IfOk result (CanRename (nodes_of self.now.nodes)) }
-        ensures plan { Gives (λ plan. plan) (table.rename_plan (tree_of self.now) cred.now a.now) result }
+        ensures check { result ≡ table.rename_plan (tree_of self.now) cred.now a.now }
+        ensures ready { IfOk result (λ plan. plan.is_same ≡ false → CanMove (nodes_of self.now.nodes) plan) }
     {
-        let d = self.live_directories(a)?;
-        self.may_rename(cred, &d, a)?;
-        let Some(entry) = d.from.node.named(a.from.name.as_slice()) else {
-            return Err(Status::NoEnt);
-        };
-        let Some(source) = self.live_node(entry.fileid) else {
-            return Err(Status::NoEnt);
-        };
-        let target = self.target_of(&d.to, a.to.name.as_slice());
-        self.renamed(d, source, target)
+        let r = self.find_renaming(cred, a)?;
+        self.need_other_room(&r)?;
+        Ok(RenamePlan {
+            from: r.from.place.fileid(),
+            to: r.to.place.fileid(),
+            fileid: r.source.place.fileid(),
+            is_same: r.is_same_node(),
+            reparents: r.reparents(),
+            replaced: r.replaced(),
+        })
     }
+
+    // ---- the edit
 
     /// What has the new name goes, as by REMOVE or RMDIR.
     fn replace(&mut self, to: u64, name: &[u8], replaced: Option<Replaced>, now: Moment)
@@ -250,82 +274,46 @@ impl Plain {
     {
         if let Some(r) = replaced {
             if r.is_directory {
-                self.directory_removed(to, name, r.fileid, now);
+                self.drop_directory(to, name, r.fileid, now);
             } else {
-                self.removed(to, name, r.fileid, now);
+                self.remove_file(to, name, r.fileid, now);
             }
         }
     }
 
     /// A moved directory leaves its parent's links and joins the other's.
-    #[tactic(auto, unfolding(fs_rules::specs::Edits::at_node))]
-    fn relink(&mut self, m: &Move)
-        requires { m.now.reparents ≡ true → IfSome (nodes_of self.old.nodes m.now.to) (λ n. n.nlink + 1 < 2 ^ 32) }
-        ensures { tree_of self.new ≡ table.relinked m.now (tree_of self.old) }
+    #[tactic(auto, unfolding(fs_rules::specs::Edits::edit_node))]
+    fn relink(&mut self, plan: &RenamePlan)
+        requires { plan.now.reparents ≡ true → IfSome (nodes_of self.old.nodes plan.now.to) (λ n. HasLink n.inode) }
+        ensures { tree_of self.new ≡ table.relink plan.now (tree_of self.old) }
     {
-        if m.reparents {
-            self.nodes.lose_link(m.from);
-            self.nodes.gain_link(m.to);
+        if plan.reparents {
+            self.nodes.drop_link(plan.from);
+            self.nodes.add_link(plan.to);
         }
     }
 
     /// The node moves; or it answers `NoMemory`, and the tree is as it was.
-    #[tactic(auto, unfolding(fs_rules::specs::Renaming::moved, fs_rules::specs::Edits::at_node))]
-    fn moved(
+    #[tactic(auto, unfolding(fs_rules::specs::Renaming::move_node, fs_rules::specs::Edits::edit_node))]
+    fn move_node(
         &mut self,
         alloc: Global,
         a: &RenameArgs<Text>,
-        m: &Move,
+        plan: &RenamePlan,
         now: Moment,
     ) -> Result<(), NoMemory>
-        requires { CanMove (nodes_of self.old.nodes) m.now }
-        ensures ok { OnOk result (tree_of self.new ≡ table.moved now a.now m.now (tree_of self.old)) }
+        requires { CanMove (nodes_of self.old.nodes) plan.now }
+        ensures ok { OnOk result (tree_of self.new ≡ table.move_node now a.now plan.now (tree_of self.old)) }
         ensures err { OnErr result (tree_of self.new ≡ tree_of self.old) }
     {
         let name = Text::from_slice(alloc, a.to.name.as_slice())?;
-        let room = self.nodes.room_for_name(alloc, m.to)?;
-        self.replace(m.to, a.to.name.as_slice(), m.replaced, now);
-        self.relink(m);
-        self.nodes.forget(m.from, a.from.name.as_slice(), now);
-        self.nodes.take_name(m.to, room, name, m.fileid, now);
-        self.nodes.renew(m, now);
+        let room = self.nodes.room_for_name(alloc, plan.to)?;
+        self.replace(plan.to, a.to.name.as_slice(), plan.replaced, now);
+        self.relink(plan);
+        self.nodes.drop_name(plan.from, a.from.name.as_slice(), now);
+        self.nodes.take_name(plan.to, room, name, plan.fileid, now);
+        self.nodes.renew(plan, now);
         Ok(())
-    }
-
-    /// What is told of a move that is made; or it answers `NoMemory`, and the tree is as it was.
-    #[tactic(auto, unfolding(fs_rules::specs::Outcomes::change))]
-    fn move_told(
-        &mut self,
-        alloc: Global,
-        a: &RenameArgs<Text>,
-        m: &Move,
-        now: Moment,
-    ) -> Result<Body, NoMemory>
-        requires { CanMove (nodes_of self.old.nodes) m.now }
-        ensures ok { OnOk result (tree_of self.new ≡ table.moved now a.now m.now (tree_of self.old)) }
-        ensures told { IfOk result (λ body. body ≡ table.rename_told (tree_of self.old) (Moved m.now) (tree_of self.new)) }
-        ensures err { OnErr result (tree_of self.new ≡ tree_of self.old) }
-    {
-        let from = self.shown(Place::Live(m.from));
-        let to = self.shown(Place::Live(m.to));
-        self.moved(alloc, a, m, now)?;
-        Ok(Body::Rename(RenameOk {
-            from: change(from, self.shown(Place::Live(m.from))),
-            to: change(to, self.shown(Place::Live(m.to))),
-        }))
-    }
-
-    /// What is told where both names are one node's.
-    #[tactic(auto, unfolding(fs_rules::specs::Outcomes::change))]
-    fn same_told(&self, from: u64, to: u64) -> Body
-        ensures { result ≡ table.rename_told (tree_of self.now) (Same from to) (tree_of self.now) }
-    {
-        let first = self.shown(Place::Live(from));
-        let second = self.shown(Place::Live(to));
-        Body::Rename(RenameOk {
-            from: change(first, first),
-            to: change(second, second),
-        })
     }
 
     /// RENAME.
@@ -337,11 +325,17 @@ impl Plain {
         a: &RenameArgs<Text>,
         now: Moment,
     ) -> Result<Body, Fault>
-        ensures { Does 14 (table.rename (tree_of self.old) cred.now a.now now) (tree_of self.old) (tree_of self.new) result }
+        ensures { DoesOwn (table.rename (tree_of self.old) cred.now a.now now) (tree_of self.old) (tree_of self.new) result }
     {
-        match self.rename_plan(cred, a)? {
-            RenamePlan::Same(from, to) => Ok(self.same_told(from, to)),
-            RenamePlan::Moved(m) => Ok(self.move_told(alloc, a, &m, now)?),
+        let plan = self.rename_plan(cred, a)?;
+        let from = self.shown(Place::Live(plan.from));
+        let to = self.shown(Place::Live(plan.to));
+        if !plan.is_same {
+            self.move_node(alloc, a, &plan, now)?;
         }
+        Ok(Body::Rename(RenameOk {
+            from: wcc_of(from, self.shown(Place::Live(plan.from))),
+            to: wcc_of(to, self.shown(Place::Live(plan.to))),
+        }))
     }
 }

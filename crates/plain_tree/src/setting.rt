@@ -1,20 +1,23 @@
 //! SETATTR.
 
-ghost use Rattle.std.specs.Prelude.{◌≡◌, false, IfOk, IfSome};
+ghost use Rattle.std.specs.Prelude.{◌≡◌, not, IfOk, IfSome};
+ghost use Rattle.fs_rules.specs.Attributes.{given};
+ghost use Rattle.fs_rules.specs.Checks.{Does};
 ghost use Rattle.fs_rules.specs.Setting as table;
-ghost use Rattle.fs_rules.specs.Setting.{is_other_time, lacks_cuts};
-ghost use Rattle.plain_tree.specs.Giving.{Does, Gives};
+ghost use Rattle.plain_nodes.specs.Needs.{HasCuts};
+ghost use Rattle.plain_nodes.specs.Nodes.{nodes_of};
+ghost use Rattle.fs_rules.specs.Setting.{is_same};
 
-use crate::fault::Fault;
-use crate::found::live;
-use crate::outcome::change;
+use crate::checks::{need_live, no_fault, refuse_if};
+use crate::object::Object;
 use crate::plain::Plain;
-use fs_rules::{Place, SetAttrPlan, apply_sattr, sattr_fault};
+use fs_rules::limits::MOST_NUMBERS;
+use fs_rules::{Place, SetAttrPlan, apply_sattr, sattr_fault, wcc_of};
 use nfs3_types::{Body, Cred, Moment, SetAttrArgs, Status, Text};
 
-/// Whether the guard asks for another time than this.
-fn is_other_time(guard: Option<Moment>, time: Moment) -> bool
-    ensures { result ≡ is_other_time guard time }
+/// Whether the guard is another time than this.
+fn is_guarded(guard: Option<Moment>, time: Moment) -> bool
+    ensures { result ≡ given guard (λ guard. not (is_same guard time)) }
 {
     match guard {
         Some(guard) => guard != time,
@@ -22,11 +25,21 @@ fn is_other_time(guard: Option<Moment>, time: Moment) -> bool
     }
 }
 
+/// Whether a size that is given is a cut of the file, and one too many.
+#[tactic(auto, unfolding(fs_rules::specs::Limits::most_numbers))]
+pub fn lacks_cuts(size: Option<u64>, o: &Object) -> bool
+    ensures { result ≡ table.lacks_cuts size o.now }
+{
+    match size {
+        Some(size) => size < o.size && o.inode.cuts >= MOST_NUMBERS - 1,
+        None => false,
+    }
+}
+
 impl Plain {
-    ghost use Rattle.plain_nodes.specs.Nodes.{nodes_of};
     ghost use Rattle.plain_tree.specs.Trees.{tree_of};
 
-    /// What SETATTR is going to do: the file's cuts leave room for the size.
+    /// What SETATTR is going to do.
     #[tactic(auto, unfolding(fs_rules::specs::Setting::set_attr_plan))]
     fn set_attr_plan(
         &self,
@@ -34,43 +47,36 @@ impl Plain {
         a: &SetAttrArgs<Text>,
         now: Moment,
     ) -> Result<SetAttrPlan, Status>
-        ensures plan { Gives (λ plan. plan) (table.set_attr_plan (tree_of self.now) cred.now a.now now) result }
-        ensures cuts { IfOk result (λ plan. IfSome (nodes_of self.now.nodes plan.fileid) (λ n. lacks_cuts a.now.attributes.size n ≡ false)) }
+        ensures check { result ≡ table.set_attr_plan (tree_of self.now) cred.now a.now now }
+        ensures cuts { IfOk result (λ plan. IfSome (nodes_of self.now.nodes plan.fileid) (HasCuts a.now.attributes.size)) }
     {
-        let f = self.found(a.object.as_slice())?;
-        let l = live(&f)?;
-        let node = l.node;
-        if is_other_time(a.guard, node.ctime) {
-            return Err(Status::NotSync);
-        }
-        let attributes = self.live_attributes(&l);
-        if let Some(status) = sattr_fault(cred, &attributes, &a.attributes) {
-            return Err(status);
-        }
-        if node.lacks_cuts(a.attributes.size) {
-            return Err(Status::NoSpc);
-        }
+        let o = self.find_object(a.object.as_slice())?;
+        need_live(&o)?;
+        refuse_if(is_guarded(a.guard, o.inode.ctime), Status::NotSync)?;
+        let attributes = self.attributes(&o);
+        no_fault(sattr_fault(cred, &attributes, &a.attributes))?;
+        refuse_if(lacks_cuts(a.attributes.size, &o), Status::NoSpc)?;
         Ok(SetAttrPlan {
-            fileid: l.fileid,
+            fileid: o.place.fileid(),
             attributes: apply_sattr(&attributes, &a.attributes, now),
         })
     }
 
     /// SETATTR. It takes no memory.
-    #[tactic(auto, unfolding(fs_rules::specs::Setting::set_attr, fs_rules::specs::Edits::at_node, fs_rules::specs::Outcomes::change))]
+    #[tactic(auto, unfolding(fs_rules::specs::Setting::set_attr, fs_rules::specs::Edits::edit_node))]
     pub(crate) fn set_attr(
         &mut self,
         cred: &Cred,
         a: &SetAttrArgs<Text>,
         now: Moment,
-    ) -> Result<Body, Fault>
-        ensures { Does 2 (table.set_attr (tree_of self.old) cred.now a.now now) (tree_of self.old) (tree_of self.new) result }
+    ) -> Result<Body, Status>
+        ensures { Does (table.set_attr (tree_of self.old) cred.now a.now now) (tree_of self.old) (tree_of self.new) result }
     {
         let plan = self.set_attr_plan(cred, a, now)?;
         let place = Place::Live(plan.fileid);
         let before = self.shown(place);
         self.nodes
-            .describe(plan.fileid, &plan.attributes, a.attributes.size);
-        Ok(Body::SetAttr(change(before, self.shown(place))))
+            .set(plan.fileid, &plan.attributes, a.attributes.size);
+        Ok(Body::SetAttr(wcc_of(before, self.shown(place))))
     }
 }

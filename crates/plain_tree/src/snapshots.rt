@@ -1,17 +1,17 @@
 //! The snapshots of a tree.
 
 ghost use Rattle.std.specs.Option.{option_copied};
-ghost use Rattle.std.specs.Prelude.{◌≡◌, ◌≤◌, bytes_eq, filter, find, length, map, not, option_map};
+ghost use Rattle.std.specs.Prelude.{◌≡◌, ◌≤◌, IfSome, bytes_eq, filter, find, length, map, not, option_map};
 ghost use Rattle.fs_rules.specs.Names.{has_name};
 ghost use Rattle.fs_rules.specs.Places.{has_number, snapshot_entry};
-ghost use Rattle.plain_tree.specs.Seeing.{entry_of};
-ghost use Rattle.plain_tree.specs.Trees.{snapshot_of};
+ghost use Rattle.plain_tree.specs.Trees.{entry_of, snapshot_of};
 
 use crate::snapshot::Snapshot;
 
 /// The first snapshot of this number.
 pub fn numbered(snapshots: &[Snapshot], number: u64) -> Option<&Snapshot>
-    ensures { option_map snapshot_of (option_copied result) ≡ find (has_number number) (map snapshot_of snapshots.now) }
+    ensures found { option_map snapshot_of (option_copied result) ≡ find (has_number number) (map snapshot_of snapshots.now) }
+    ensures same { IfSome result (λ s. s.now.number ≡ number) }
 {
     let mut rest = snapshots;
     while !rest.is_empty() {

@@ -1,24 +1,21 @@
-//! MKDIR and RMDIR in the directory `.snapshot`.
+//! MKDIR and RMDIR: in the directory `.snapshot` they take and drop snapshots.
 
-ghost use Rattle.std.specs.Prelude.{◌≡◌, ◌<◌, ◌^◌, is_some, length, IfOk, OnOk, OnErr};
-ghost use Rattle.fs_rules.specs.Making.{making_told};
-ghost use Rattle.fs_rules.specs.Names.{named};
-ghost use Rattle.fs_rules.specs.Places.{snapshot_directory};
+ghost use Rattle.std.specs.Prelude.{◌≡◌, ◌<◌, ◌^◌, ◌-◌, length, IfOk, OnOk, OnErr};
+ghost use Rattle.fs_rules.specs.Checks.{Does};
+ghost use Rattle.fs_rules.specs.Making.{told_of_new};
 ghost use Rattle.fs_rules.specs.Snapshots as table;
 ghost use Rattle.fs_rules.specs.declared.place.Place.TheVariants.{Kept, SnapshotDirectory};
-ghost use Rattle.plain_tree.specs.Giving.{Does};
+ghost use Rattle.plain_tree.specs.Giving.{DoesOwn};
 
+use crate::checks::{need, need_good_name, refuse_if};
 use crate::fault::Fault;
-use crate::found::good_name;
-use crate::looking::{is_dot, is_dot_dot};
-use crate::outcome::change;
+use crate::looking::{is_dot, is_dot_dot, is_dots};
 use crate::plain::Plain;
-use crate::removing::is_dots;
 use crate::snapshot::Snapshot;
 use crate::snapshots::{drop_snapshots_named, snapshot_named};
-use fs_rules::Place;
-use nfs3_types::{Body, CreateOk, Cred, Moment, NoMemory, Status, Text};
-use plain_nodes::limits::{LAST_EPOCH, MOST_SNAPSHOTS};
+use fs_rules::limits::{LAST_EPOCH, MOST_SNAPSHOTS};
+use fs_rules::{Place, wcc_of};
+use nfs3_types::{Body, CreateOk, Cred, DirOp, MkdirArgs, Moment, NoMemory, Status, Text};
 use std::alloc::Global;
 
 /// Whether a place is the directory `.snapshot`.
@@ -35,51 +32,36 @@ fn is_snapshot_directory(place: Place) -> bool
 impl Plain {
     ghost use Rattle.plain_tree.specs.Trees.{tree_of};
 
-    /// Whether a handle is that of `.snapshot`.
-    #[tactic(auto, unfolding(fs_rules::specs::Snapshots::is_of_snapshots))]
-    pub(crate) fn is_of_snapshots(&self, handle: &[u8]) -> bool
-        ensures { result ≡ table.is_of_snapshots (tree_of self.now) handle.now }
-    {
-        match self.found(handle) {
-            Ok(f) => is_snapshot_directory(f.place()),
-            Err(_) => false,
-        }
-    }
-
     /// Whether a snapshot has this name.
-    #[tactic(auto, unfolding(fs_rules::specs::Names::named, fs_rules::specs::Places::snapshot_directory))]
+    #[tactic(auto, unfolding(fs_rules::specs::Places::entry_at, fs_rules::specs::Places::node_at, fs_rules::specs::Names::named, fs_rules::specs::Places::snapshot_directory))]
     fn has_snapshot(&self, name: &[u8]) -> bool
-        ensures { result ≡ is_some (named name.now (snapshot_directory (tree_of self.now))) }
+        ensures { result ≡ table.has_snapshot (tree_of self.now) name.now }
     {
         snapshot_named(&self.snapshots, name).is_some()
     }
 
+    // ---- taking one
+
     /// Whether a snapshot can be taken: user 0 alone takes them.
-    #[tactic(auto, unfolding(fs_rules::specs::Snapshots::taking, fs_rules::specs::Limits::most_snapshots, fs_rules::specs::Limits::last_epoch))]
-    fn taking(&self, cred: &Cred, name: &[u8]) -> Result<(), Status>
-        ensures is { result ≡ table.taking (tree_of self.now) cred.now name.now }
+    #[tactic(auto, unfolding(fs_rules::specs::Snapshots::need_new_snapshot, fs_rules::specs::Limits::most_snapshots, fs_rules::specs::Limits::last_epoch))]
+    fn need_new_snapshot(&self, cred: &Cred, name: &[u8]) -> Result<(), Status>
+        ensures check { result ≡ table.need_new_snapshot (tree_of self.now) cred.now name.now }
         ensures few { OnOk result (length self.now.snapshots.items < 1024) }
-        ensures low { OnOk result (self.now.epoch < 2 ^ 32) }
+        ensures young { OnOk result (self.now.epoch < 2 ^ 32 - 1) }
     {
-        good_name(name)?;
-        if cred.uid != 0 {
-            return Err(Status::Acces);
-        }
-        if is_dots(name) || self.has_snapshot(name) {
-            return Err(Status::Exist);
-        }
-        if self.snapshots.len() >= MOST_SNAPSHOTS || self.epoch >= LAST_EPOCH {
-            return Err(Status::NoSpc);
-        }
-        Ok(())
+        need_good_name(name)?;
+        need(cred.uid == 0, Status::Acces)?;
+        refuse_if(is_dots(name) || self.has_snapshot(name), Status::Exist)?;
+        refuse_if(self.snapshots.len() >= MOST_SNAPSHOTS, Status::NoSpc)?;
+        refuse_if(self.epoch >= LAST_EPOCH, Status::NoSpc)
     }
 
     /// Takes a snapshot, a whole copy of the live tree; or answers `NoMemory`, and leaves the tree as it was.
-    #[tactic(auto, unfolding(fs_rules::specs::Snapshots::taken))]
-    fn taken(&mut self, alloc: Global, name: &[u8], now: Moment) -> Result<(), NoMemory>
+    #[tactic(auto, unfolding(fs_rules::specs::Snapshots::add_snapshot))]
+    fn add_snapshot(&mut self, alloc: Global, name: &[u8], now: Moment) -> Result<(), NoMemory>
         requires few { length self.old.snapshots.items < 1024 }
-        requires low { self.old.epoch < 2 ^ 32 }
-        ensures ok { OnOk result (tree_of self.new ≡ table.taken now name.now (tree_of self.old)) }
+        requires young { self.old.epoch < 2 ^ 32 - 1 }
+        ensures ok { OnOk result (tree_of self.new ≡ table.add_snapshot now name.now (tree_of self.old)) }
         ensures err { OnErr result (tree_of self.new ≡ tree_of self.old) }
     {
         let number = self.epoch;
@@ -97,7 +79,7 @@ impl Plain {
     }
 
     /// Takes a snapshot, and tells of it; or answers `NoMemory`, and leaves the tree as it was.
-    #[tactic(auto, unfolding(fs_rules::specs::Snapshots::taken, fs_rules::specs::Making::making_told, fs_rules::specs::Outcomes::change, fs_rules::specs::Places::handle_at))]
+    #[tactic(auto, unfolding(fs_rules::specs::Snapshots::add_snapshot, fs_rules::specs::Making::told_of_new, fs_rules::specs::Places::handle_at))]
     fn take_and_tell(
         &mut self,
         alloc: Global,
@@ -105,64 +87,57 @@ impl Plain {
         now: Moment,
     ) -> Result<CreateOk, NoMemory>
         requires few { length self.old.snapshots.items < 1024 }
-        requires low { self.old.epoch < 2 ^ 32 }
-        ensures taken { OnOk result (tree_of self.new ≡ table.taken now name.now (tree_of self.old)) }
-        ensures told { IfOk result (λ told. told ≡ making_told (tree_of self.old) (tree_of self.new) SnapshotDirectory (Kept self.old.epoch 1)) }
+        requires young { self.old.epoch < 2 ^ 32 - 1 }
+        ensures taken { OnOk result (tree_of self.new ≡ table.add_snapshot now name.now (tree_of self.old)) }
+        ensures told { IfOk result (λ told. told ≡ told_of_new (tree_of self.old) (tree_of self.new) SnapshotDirectory (Kept self.old.epoch 1)) }
         ensures err { OnErr result (tree_of self.new ≡ tree_of self.old) }
     {
         let directory = Place::SnapshotDirectory;
         let object = Place::Kept(self.epoch, 1);
         let before = self.shown(directory);
         let handle = self.handle_at(alloc, object)?;
-        self.taken(alloc, name, now)?;
+        self.add_snapshot(alloc, name, now)?;
         Ok(CreateOk {
             object: Some(handle),
             attributes: self.shown(object),
-            directory: change(before, self.shown(directory)),
+            directory: wcc_of(before, self.shown(directory)),
         })
     }
 
     /// MKDIR in `.snapshot` takes a snapshot.
     #[tactic(auto, unfolding(fs_rules::specs::Snapshots::take_snapshot))]
-    pub(crate) fn take_snapshot(
+    fn take_snapshot(
         &mut self,
         alloc: Global,
         cred: &Cred,
         name: &[u8],
         now: Moment,
     ) -> Result<Body, Fault>
-        ensures { Does 9 (table.take_snapshot (tree_of self.old) cred.now name.now now) (tree_of self.old) (tree_of self.new) result }
+        ensures { DoesOwn (table.take_snapshot (tree_of self.old) cred.now name.now now) (tree_of self.old) (tree_of self.new) result }
     {
-        self.taking(cred, name)?;
+        self.need_new_snapshot(cred, name)?;
         let told = self.take_and_tell(alloc, name, now)?;
         Ok(Body::Mkdir(told))
     }
 
+    // ---- dropping one
+
     /// Whether a snapshot can be dropped: user 0 alone drops them.
-    #[tactic(auto, unfolding(fs_rules::specs::Snapshots::dropping))]
-    fn dropping(&self, cred: &Cred, name: &[u8]) -> Result<(), Status>
-        ensures { result ≡ table.dropping (tree_of self.now) cred.now name.now }
+    #[tactic(auto, unfolding(fs_rules::specs::Snapshots::need_snapshot))]
+    fn need_snapshot(&self, cred: &Cred, name: &[u8]) -> Result<(), Status>
+        ensures { result ≡ table.need_snapshot (tree_of self.now) cred.now name.now }
     {
-        good_name(name)?;
-        if is_dot(name) {
-            return Err(Status::Inval);
-        }
-        if is_dot_dot(name) {
-            return Err(Status::Exist);
-        }
-        if cred.uid != 0 {
-            return Err(Status::Acces);
-        }
-        if !self.has_snapshot(name) {
-            return Err(Status::NoEnt);
-        }
-        Ok(())
+        need_good_name(name)?;
+        refuse_if(is_dot(name), Status::Inval)?;
+        refuse_if(is_dot_dot(name), Status::Exist)?;
+        need(cred.uid == 0, Status::Acces)?;
+        need(self.has_snapshot(name), Status::NoEnt)
     }
 
     /// The snapshots of this name go.
-    #[tactic(auto, unfolding(fs_rules::specs::Snapshots::dropped))]
-    fn dropped(&mut self, name: &[u8], now: Moment)
-        ensures { tree_of self.new ≡ table.dropped now name.now (tree_of self.old) }
+    #[tactic(auto, unfolding(fs_rules::specs::Snapshots::drop_named))]
+    fn drop_named(&mut self, name: &[u8], now: Moment)
+        ensures { tree_of self.new ≡ table.drop_named now name.now (tree_of self.old) }
     {
         drop_snapshots_named(&mut self.snapshots, name);
         self.snapshot_times.mtime = now;
@@ -170,19 +145,55 @@ impl Plain {
     }
 
     /// RMDIR in `.snapshot` drops a snapshot. It takes no memory.
-    #[tactic(auto, unfolding(fs_rules::specs::Snapshots::drop_snapshot, fs_rules::specs::Outcomes::change))]
-    pub(crate) fn drop_snapshot(
-        &mut self,
-        cred: &Cred,
-        name: &[u8],
-        now: Moment,
-    ) -> Result<Body, Fault>
-        ensures { Does 13 (table.drop_snapshot (tree_of self.old) cred.now name.now now) (tree_of self.old) (tree_of self.new) result }
+    #[tactic(auto, unfolding(fs_rules::specs::Snapshots::drop_snapshot))]
+    fn drop_snapshot(&mut self, cred: &Cred, name: &[u8], now: Moment) -> Result<Body, Status>
+        ensures { Does (table.drop_snapshot (tree_of self.old) cred.now name.now now) (tree_of self.old) (tree_of self.new) result }
     {
-        self.dropping(cred, name)?;
+        self.need_snapshot(cred, name)?;
         let place = Place::SnapshotDirectory;
         let before = self.shown(place);
-        self.dropped(name, now);
-        Ok(Body::Rmdir(change(before, self.shown(place))))
+        self.drop_named(name, now);
+        Ok(Body::Rmdir(wcc_of(before, self.shown(place))))
+    }
+
+    // ---- the two procedures
+
+    /// MKDIR: in `.snapshot` it takes a snapshot.
+    #[tactic(auto, unfolding(fs_rules::specs::Snapshots::mkdir))]
+    pub(crate) fn mkdir(
+        &mut self,
+        alloc: Global,
+        cred: &Cred,
+        a: &MkdirArgs<Text>,
+        now: Moment,
+        lane: usize,
+    ) -> Result<Body, Fault>
+        requires { lane < 16 }
+        ensures { DoesOwn (table.mkdir (tree_of self.old) cred.now a.now now lane) (tree_of self.old) (tree_of self.new) result }
+    {
+        let o = self.find_object(a.place.directory.as_slice())?;
+        if is_snapshot_directory(o.place) {
+            self.take_snapshot(alloc, cred, a.place.name.as_slice(), now)
+        } else {
+            self.make_directory(alloc, cred, a, now, lane, &o)
+        }
+    }
+
+    /// RMDIR: in `.snapshot` it drops a snapshot. It takes no memory.
+    #[tactic(auto, unfolding(fs_rules::specs::Snapshots::rmdir))]
+    pub(crate) fn rmdir(
+        &mut self,
+        cred: &Cred,
+        a: &DirOp<Text>,
+        now: Moment,
+    ) -> Result<Body, Status>
+        ensures { Does (table.rmdir (tree_of self.old) cred.now a.now now) (tree_of self.old) (tree_of self.new) result }
+    {
+        let o = self.find_object(a.directory.as_slice())?;
+        if is_snapshot_directory(o.place) {
+            self.drop_snapshot(cred, a.name.as_slice(), now)
+        } else {
+            self.remove_directory(cred, a.name.as_slice(), now, &o)
+        }
     }
 }

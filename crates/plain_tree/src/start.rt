@@ -1,40 +1,40 @@
 //! The tree as it begins.
 
-ghost use Rattle.std.specs.Prelude.{◌≡◌, ℕ, List, IfOk};
+ghost use Rattle.std.specs.Prelude.{◌≡◌, ◌≤◌, ◌^◌, ℕ, List, IfOk};
 ghost use Rattle.nfs3_types.specs.declared.moment.Moment.{Moment as AnyMoment};
-ghost use Rattle.fs_rules.specs.Tree.{first_nodes, first_tree, root_at};
+ghost use Rattle.fs_rules.specs.Tree.{always, first_nodes, first_tree};
 ghost use Rattle.plain_nodes.specs.Nodes.{nodes_of};
+ghost use Rattle.plain_tree.specs.Starting.{begin, root_at};
 
-use crate::plain::Plain;
+use crate::plain::{Plain, root_inode};
 use file_content::Content;
 use fs_rules::Times;
-use nfs3_types::{FileType, Moment, NoMemory};
+use nfs3_types::{Moment, NoMemory};
 use plain_nodes::{Node, Nodes};
 use std::alloc::Global;
 
 /// The root.
 const ROOT: u64 = 1;
 
+/// All times are this one.
+fn always(at: Moment) -> Times
+    ensures { result ≡ always at }
+{
+    Times {
+        atime: at,
+        mtime: at,
+        ctime: at,
+    }
+}
+
 /// The root as it begins.
-#[tactic(auto, unfolding(fs_rules::specs::Tree::root_at))]
 fn root(alloc: Global, first: Moment) -> Node
     ensures { result ≡ root_at first }
 {
     Node {
-        kind: FileType::Dir,
-        mode: 0o755,
-        nlink: 2,
-        uid: 0,
-        gid: 0,
-        atime: first,
-        mtime: first,
-        ctime: first,
+        inode: root_inode(2, 3, always(first)),
         content: Content::new(alloc),
         names: Vec::new(alloc),
-        next_cookie: 3,
-        parent: ROOT,
-        verifier: None,
-        cuts: 0,
     }
 }
 
@@ -58,6 +58,7 @@ impl Plain {
         verifier: [u8; 8],
         first: Moment,
     ) -> Result<Plain, NoMemory>
+        requires { fsid ≤ 2 ^ 63 }
         ensures { IfOk result (λ p. tree_of p ≡ first_tree fsid verifier first) }
     {
         Ok(Plain {
@@ -66,26 +67,20 @@ impl Plain {
                 16, 17, 18, 19, 20, 21, 22, 23, 24, 25, 26, 27, 28, 29, 30, 31,
             ],
             epoch: 1,
-            snapshot_times: Times {
-                atime: first,
-                mtime: first,
-                ctime: first,
-            },
+            snapshot_times: always(first),
             snapshots: Vec::new(alloc),
             fsid,
             verifier,
         })
     }
 
-    /// A tree as it began at another moment begins at this one. It takes no memory.
+    /// The times of the root and of `.snapshot` are this moment, and all else stays; so a tree as it began at another
+    /// moment begins at this one. It takes no memory.
     pub fn begin(&mut self, first: Moment)
-        ensures { (fsid : ℕ) (verifier : List ℕ) (other : AnyMoment) → tree_of self.old ≡ first_tree fsid verifier other → tree_of self.new ≡ first_tree fsid verifier first }
+        ensures all { tree_of self.new ≡ begin first (tree_of self.old) }
+        ensures first { (fsid : ℕ) (verifier : List ℕ) (other : AnyMoment) → tree_of self.old ≡ first_tree fsid verifier other → tree_of self.new ≡ first_tree fsid verifier first }
     {
         self.nodes.begin(ROOT, first);
-        self.snapshot_times = Times {
-            atime: first,
-            mtime: first,
-            ctime: first,
-        };
+        self.snapshot_times = always(first);
     }
 }

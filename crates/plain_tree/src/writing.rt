@@ -1,18 +1,23 @@
 //! WRITE.
 
 ghost use Rattle.std.specs.Prelude.{◌≡◌, ◌+◌, ◌^◌, ◌<◌, ◌≤◌, ◌&&◌, nat_lt, IfOk, length};
-ghost use Rattle.fs_rules.specs.Content as table;
-ghost use Rattle.plain_tree.specs.Giving.{Does, Gives};
+ghost use Rattle.fs_rules.specs.Transfers as table;
+ghost use Rattle.plain_tree.specs.Giving.{DoesOwn};
 
+use crate::checks::{need, need_file, need_live, refuse_if};
 use crate::fault::Fault;
-use crate::found::{FoundLive, as_file, live};
-use crate::outcome::change;
 use crate::plain::Plain;
-use crate::rights::{WRITE, may_do, owns};
-use fs_rules::{Place, WritePlan};
+use fs_rules::limits::{MOST_SIZE, MOST_TRANSFER};
+use fs_rules::{Inode, Place, WritePlan, may_write, owns, wcc_of};
 use nfs3_types::{Body, Cred, Moment, StableHow, Status, Text, WriteArgs, WriteOk};
-use plain_nodes::limits::{MOST_SIZE, MOST_TRANSFER};
 use std::alloc::Global;
+
+/// The caller may write: the owner always may.
+pub fn may_fill(cred: &Cred, i: &Inode) -> bool
+    ensures { result ≡ table.may_fill cred.now i.now }
+{
+    owns(cred, i.uid) || may_write(cred, i)
+}
 
 /// Whether bytes at an offset would make a file larger than the greatest size; no byte would.
 fn is_too_far(offset: u64, count: u32) -> bool
@@ -25,34 +30,27 @@ impl Plain {
     ghost use Rattle.plain_tree.specs.Trees.{tree_of};
 
     /// What WRITE is going to do: it writes no more than the call has, and no further than a file may reach.
-    #[tactic(auto, unfolding(fs_rules::specs::Content::write_plan, fs_rules::specs::Limits::most_transfer, fs_rules::specs::Limits::most_size, fs_rules::specs::Attributes::attributes_of, fs_rules::specs::Places::attributes_at))]
+    #[tactic(auto, unfolding(fs_rules::specs::Transfers::write_plan, fs_rules::specs::Limits::most_transfer, fs_rules::specs::Limits::most_size))]
     fn write_plan(&self, cred: &Cred, a: &WriteArgs<Text>) -> Result<WritePlan, Status>
-        ensures plan { Gives (λ plan. plan) (table.write_plan (tree_of self.now) cred.now a.now) result }
+        ensures plan { result ≡ table.write_plan (tree_of self.now) cred.now a.now }
         ensures count { IfOk result (λ plan. plan.count ≤ length a.now.«data») }
         ensures reach { IfOk result (λ plan. a.now.offset + plan.count < 2 ^ 64) }
     {
-        let f = self.found(a.file.as_slice())?;
-        as_file(&f)?;
-        let l = live(&f)?;
-        if a.count as usize != a.data.len() {
-            return Err(Status::Inval);
-        }
-        let attributes = self.live_attributes(&l);
-        if !(owns(cred, &attributes) || may_do(cred, &attributes, WRITE)) {
-            return Err(Status::Acces);
-        }
+        let o = self.find_object(a.file.as_slice())?;
+        need_file(&o)?;
+        need_live(&o)?;
+        need(a.count as usize == a.data.len(), Status::Inval)?;
+        need(may_fill(cred, &o.inode), Status::Acces)?;
         let count = a.count.min(MOST_TRANSFER);
-        if is_too_far(a.offset, count) {
-            return Err(Status::FBig);
-        }
+        refuse_if(is_too_far(a.offset, count), Status::FBig)?;
         Ok(WritePlan {
-            fileid: l.fileid,
+            fileid: o.place.fileid(),
             count,
         })
     }
 
     /// WRITE.
-    #[tactic(auto, unfolding(fs_rules::specs::Content::write, fs_rules::specs::Edits::at_node, fs_rules::specs::Outcomes::change))]
+    #[tactic(auto, unfolding(fs_rules::specs::Transfers::write, fs_rules::specs::Edits::edit_node))]
     pub(crate) fn write(
         &mut self,
         alloc: Global,
@@ -60,7 +58,7 @@ impl Plain {
         a: &WriteArgs<Text>,
         now: Moment,
     ) -> Result<Body, Fault>
-        ensures { Does 7 (table.write (tree_of self.old) cred.now a.now now) (tree_of self.old) (tree_of self.new) result }
+        ensures { DoesOwn (table.write (tree_of self.old) cred.now a.now now) (tree_of self.old) (tree_of self.new) result }
     {
         let plan = self.write_plan(cred, a)?;
         let place = Place::Live(plan.fileid);
@@ -68,7 +66,7 @@ impl Plain {
         let bytes = &a.data.as_slice()[..plan.count as usize];
         self.nodes.write(alloc, plan.fileid, a.offset, bytes, now)?;
         Ok(Body::Write(WriteOk {
-            file: change(before, self.shown(place)),
+            file: wcc_of(before, self.shown(place)),
             count: plan.count,
             committed: StableHow::FileSync,
             verifier: self.verifier,

@@ -1,7 +1,7 @@
-use Rattle.plain_nodes.specs.Nodes.{nodes_of}
+use Rattle.std.proofs.Common.{rules}
 use Rattle.plain_tree.specs.Trees.{tree_of}
 use Rattle.plain_tree.proofs.Starting.{begins}
 use Rattle.plain_tree.proofs.plain.Plain.begin.Goals as goal
 
-pub returns : goal.returns
-returns c = begins (tree_of c.args.self.now) (nodes_of c.begin.new.self) c.args.first c.begin.ensures
+pub returns-clause-first : goal.returns-clause-first
+returns-clause-first c = begins (tree_of c.args.self.now) _ c.args.first (search rules)
