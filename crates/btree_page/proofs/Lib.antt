@@ -4,3 +4,4 @@ pub mod Fields
 pub mod Index
 pub mod Trees
 pub mod Whole
+pub mod Witnessed

@@ -4,3 +4,4 @@ pub mod Content
 pub mod Reading
 pub mod Tree
 pub mod View
+pub mod Witness

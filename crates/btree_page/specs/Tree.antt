@@ -1,6 +1,6 @@
 -- The formed B-tree: what a map from slots to pages stands for, knowing nothing of paths or splits.
 -- A relation by recursion on the level, with the list of the slots that are reached as its last part.
-use Rattle.std.specs.Prelude.{ℕ, zero, suc, ◌≡◌, ◌≢◌, ◌⊎◌, ◌<◌, ◌≤◌, List, [], ◌∷◌, ◌++◌, map, Option, Some, None, IsSome}
+use Rattle.std.specs.Prelude.{ℕ, zero, suc, ◌≡◌, ◌≢◌, ◌⊎◌, ◌<◌, ◌≤◌, List, [], ◌∷◌, ◌++◌, length, map, Option, Some, None, IsSome}
 use Rattle.std.specs.declared.cmp.Ordering.TheVariants.{Greater}
 use Rattle.pair_types.specs.declared.slot.Slot.{Slot}
 use Rattle.pair_types.specs.declared.quad.Quad.{Quad}
@@ -38,6 +38,11 @@ quad_bound q = record { key = q.key; birth = q.birth }
 
 abbrev pub quad_cell : Quad → Entry
 quad_cell q = leaf_entry q.key q.birth q.death q.value
+
+-- a record within the limits of a page
+pub record IsRecord (q : Quad) : Type 0 where
+  pub key : length q.key ≤ 264
+  pub value : length q.value ≤ 1200
 
 -- a leaf of these quads, which lie in its range
 pub record IsLeaf (p : PageMap) (slot : Slot) (low : Bound) (high : Option Bound) (quads : List Quad) (slots : List Slot) : Type 0 where

@@ -2,6 +2,7 @@
 //! contract.
 
 ghost use Rattle.btree_page.specs.Tree.{KeepsTrees, ReachesPages, HasOneList, HasOneContent};
+ghost use Rattle.btree_page.specs.Witness.{AreTrees};
 
 /// A text is the spelling of one page at most, so that a page's cells are unique.
 pub fn one_content()
@@ -21,4 +22,9 @@ pub fn reaches_pages()
 /// A map stands for one list of records at most, and reaches one list of slots.
 pub fn one_list()
     ensures { HasOneList }
+{}
+
+/// There are trees: one empty leaf is one, and so are two leaves below a root of level 1.
+pub fn small_trees()
+    ensures { AreTrees }
 {}

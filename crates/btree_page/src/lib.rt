@@ -15,8 +15,5 @@ mod view;
 pub use builder::{PageBuilder, TooBig};
 pub use cell::Cell;
 pub use format::PageFormat;
-pub use laws::{keeps_trees, one_content, one_list, reaches_pages};
+pub use laws::{keeps_trees, one_content, one_list, reaches_pages, small_trees};
 pub use view::PageView;
-
-#[cfg(test)]
-mod tests;

@@ -1,6 +1,6 @@
 -- The first sought cell of a leaf is the least sought record.
-use Rattle.std.proofs.Common.{◌≡◌, ℕ, zero, suc, ◌<◌, ⊎_elim, Bool, true, false, List, [], ◌∷◌, map, length, Option, Some, None, Result, Ok, Err, refl, sym, ap, subst, ◌∙◌, arith}
-use Rattle.std.specs.Prelude.{All, Contains, slice_get, IfOk, IfErr}
+use Rattle.std.proofs.Common.{◌≡◌, ℕ, zero, suc, ◌<◌, ◌≤◌, ⊎_elim, Bool, true, false, List, [], ◌∷◌, map, length, Option, Some, None, Result, Ok, Err, refl, sym, ap, subst, ◌∙◌, arith}
+use Rattle.std.specs.Prelude.{All, Contains, slice_get, ◌==◌, IfOk, IfErr}
 use Rattle.std.proofs.lemmas.Bool.{cases_lt}
 use Rattle.std.proofs.lemmas.List.Elements.{All-nil, All-cons, Contains-append_left, Contains-append_right, Contains-push}
 use Rattle.pair_types.specs.declared.slot.Slot.{Slot}
@@ -9,8 +9,9 @@ use Rattle.pair_types.specs.declared.fault.PairFault.{PairFault}
 use Rattle.pair_types.specs.declared.fault.PairFault.TheVariants.{Odd, HeightFull, Page}
 use Rattle.pair_types.specs.PageMaps.{PageMap, over}
 use Rattle.pair_types.specs.PageState.{PageState}
-use Rattle.btree_page.specs.Content.{Bound, Carries, Leads, Body, Entry, Content, AreCells, IsBelow}
+use Rattle.btree_page.specs.Content.{Bound, Carries, Leads, Body, Entry, Content, bound_of, Fits, AreCells, IsPage, IsBelow, leaf_entry}
 use Rattle.btree_page.specs.Tree.{quad_bound, quad_cell, Subtree}
+use Rattle.btree_page.proofs.Built.{value_short}
 use Rattle.btree_search.specs.declared.aim.Aim.{Aim}
 use Rattle.btree_search.specs.Found.{takes, IsFound}
 use Rattle.btree_search.specs.Walk.{IsPart, IsFirst, IsLeafFault, Walks}
@@ -19,7 +20,7 @@ use Rattle.btree_search.proofs.Parts.{Unsought, NotBelow, not_both}
 use Rattle.btree_search.proofs.Walks.{only_same, same_content}
 
 -- what holds of each record by its cell holds of all
-all_cells : (P : Quad → Type 0) (quads : List Quad) → ((k : ℕ) (r : Quad) → slice_get (map quad_cell quads) k ≡ Some (quad_cell r) → P r) → All P quads
+pub all_cells : (P : Quad → Type 0) (quads : List Quad) → ((k : ℕ) (r : Quad) → slice_get (map quad_cell quads) k ≡ Some (quad_cell r) → P r) → All P quads
 all_cells P [] h = All-nil P
 all_cells P (q ∷ qs) h = All-cons P q qs (h 0 q refl) (all_cells P qs (λ k r at. h (suc k) r at))
 
@@ -34,11 +35,11 @@ quad_of e = record { key = e.key; birth = e.birth; death = death_of e.body; valu
     value_of (Carries death value) = value
     value_of (Leads child) = []
 
-same_quad : (q r : Quad) → quad_cell q ≡ quad_cell r → q ≡ r
+pub same_quad : (q r : Quad) → quad_cell q ≡ quad_cell r → q ≡ r
 unfolding quad_of
 same_quad q r e = ap (λ (x : Entry). quad_of x) e
 
-among_cells : (quads : List Quad) (n : ℕ) (q : Quad) → slice_get (map quad_cell quads) n ≡ Some (quad_cell q) → Contains quads q
+pub among_cells : (quads : List Quad) (n : ℕ) (q : Quad) → slice_get (map quad_cell quads) n ≡ Some (quad_cell q) → Contains quads q
 among_cells [] n q at = absurd cc
 among_cells (r ∷ rs) zero q at =
     let cell : quad_cell r ≡ quad_cell q = cc in
@@ -48,7 +49,7 @@ among_cells (r ∷ rs) (suc n) q at = Contains-append_right (r ∷ []) rs q (amo
 true_false : (t : Bool) → t ≡ false → t ≡ true → ⊥
 true_false t e f = cc
 
-within_list : (cells : List Entry) (k : ℕ) (e : Entry) → slice_get cells k ≡ Some e → k < length cells
+pub within_list : (cells : List Entry) (k : ℕ) (e : Entry) → slice_get cells k ≡ Some e → k < length cells
 within_list [] k e at = absurd cc
 within_list (c ∷ cells) zero e at = omega arith
 within_list (c ∷ cells) (suc k) e at = omega (arith, within_list cells k e at)
@@ -82,7 +83,7 @@ first_found aim pair quads (Some q) rules h = record {
 
 -- ---- the walk at a leaf
 
-leaf_cells : (state : PageState) (content : Content) (under : PageMap) (quads : List Quad) → content.level ≡ 0 → IsPart state content under quads
+pub leaf_cells : (state : PageState) (content : Content) (under : PageMap) (quads : List Quad) → content.level ≡ 0 → IsPart state content under quads
     → (content.cells ≡ map quad_cell quads) × AreCells true None (map quad_cell quads)
 leaf_cells state content under quads is part =
     let p = over state.writes under in
@@ -91,7 +92,7 @@ leaf_cells state content under quads is part =
     (ap (λ (c : Content). c.cells) (same_content p part.slot content _ part.held tree.page), tree.page.spelled.rules.cells)
 
 pub at_leaf : (aim : Aim) (pair : Bound) (state : PageState) (content : Content) (found : Option Quad) → content.level ≡ 0
-    → IsFirst aim pair content.cells found → Walks aim pair state state content (Ok found)
+    → IsFirst aim pair content.cells found → Walks (IsFound aim pair) state state content (Ok found)
 at_leaf aim pair state content found is first = record {
   only = only_same state;
   answer = λ under quads part.
@@ -100,7 +101,7 @@ at_leaf aim pair state content found is first = record {
 }
 
 pub at_leaf_fault : (aim : Aim) (pair : Bound) (state : PageState) (content : Content) (fault : PairFault) → content.level ≡ 0
-    → IsLeafFault content.cells fault → Walks aim pair state state content (Err fault)
+    → IsLeafFault content.cells fault → Walks (IsFound aim pair) state state content (Err fault)
 at_leaf_fault aim pair state content Odd is h = record {
   only = only_same state;
   answer = λ under quads part. h quads (leaf_cells state content under quads is part).0;
@@ -109,7 +110,7 @@ at_leaf_fault aim pair state content HeightFull is h = absurd h
 at_leaf_fault aim pair state content (Page fault) is h = record { only = only_same state; answer = λ isnt. absurd (isnt h) }
 
 pub at_leaf_any : (aim : Aim) (pair : Bound) (state : PageState) (content : Content) (result : Result (Option Quad) PairFault) → content.level ≡ 0
-    → IfOk result (λ found. IsFirst aim pair content.cells found) → IfErr result (λ fault. IsLeafFault content.cells fault) → Walks aim pair state state content result
+    → IfOk result (λ found. IsFirst aim pair content.cells found) → IfErr result (λ fault. IsLeafFault content.cells fault) → Walks (IsFound aim pair) state state content result
 at_leaf_any aim pair state content (Ok found) is h k = at_leaf aim pair state content found is h
 at_leaf_any aim pair state content (Err fault) is h k = at_leaf_fault aim pair state content fault is k
 
@@ -123,3 +124,17 @@ no_leaf_cell cells i e quads slot at leads is = leads_not quads i (subst (λ (es
         let cell : quad_cell q ≡ e = cc in
         let body = ap (λ (x : Entry). x.body) cell ∙ leads in cc
     leads_not (q ∷ qs) (suc i) there = leads_not qs i there
+
+-- ---- the limits of a record
+
+fits_at : (is_leaf : Bool) (before : Option Bound) (cells : List Entry) (i : ℕ) (e : Entry) → AreCells is_leaf before cells → slice_get cells i ≡ Some e → Fits is_leaf e
+fits_at is_leaf before [] i e h at = absurd cc
+fits_at is_leaf before (c ∷ cells) zero e h at =
+    let same : c ≡ e = cc in subst (λ (x : Entry). Fits is_leaf x) same h.0
+fits_at is_leaf before (c ∷ cells) (suc i) e h at = fits_at is_leaf (Some (bound_of c)) cells i e h.1.1 at
+
+pub record_limits : (content : Content) (i : ℕ) (e : Entry) (key : List ℕ) (birth death : ℕ) (value : List ℕ) → IsPage content → slice_get content.cells i ≡ Some e
+    → e ≡ leaf_entry key birth death value → (length key ≤ 264) × (length value ≤ 1200)
+record_limits content i e key birth death value rules at is =
+    let fits : Fits (content.level == 0) (leaf_entry key birth death value) = subst (λ (x : Entry). Fits (content.level == 0) x) is (fits_at _ None content.cells i e rules.cells at) in
+    (fits.key, value_short (content.level == 0) death value fits.body)

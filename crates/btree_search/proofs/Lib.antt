@@ -1,3 +1,4 @@
+pub mod Backs
 pub mod Halving
 pub mod Leaves
 pub mod Order

@@ -1,8 +1,9 @@
 -- An inner page's children one after the other, and how a search goes along them.
-use Rattle.std.proofs.Common.{◌≡◌, ℕ, zero, suc, ◌<◌, Bool, true, false, List, [], ◌∷◌, ◌++◌, map, length, drop, Option, Some, refl, sym, ap, subst, ◌∙◌, arith, append_assoc}
+use Rattle.std.proofs.Common.{◌≡◌, ◌≢◌, ℕ, zero, suc, ◌<◌, Bool, true, false, List, [], ◌∷◌, ◌++◌, map, length, drop, Option, Some, refl, sym, ap, subst, ◌∙◌, arith, append_assoc}
 use Rattle.std.specs.Prelude.{All, Contains, slice_get}
 use Rattle.std.proofs.lemmas.List.{append-nil}
-use Rattle.std.proofs.lemmas.List.Elements.{All-nil, All-append, All-weaker, All-contains, Contains-append_left, Contains-append_right}
+use Rattle.std.proofs.lemmas.List.Elements.{All-nil, All-cons, All-append, All-weaker, All-contains, Contains-append_left, Contains-append_right}
+use Rattle.std.specs.declared.cmp.Ordering.TheVariants.{Greater}
 use Rattle.pair_types.specs.declared.slot.Slot.{Slot}
 use Rattle.pair_types.specs.declared.quad.Quad.{Quad}
 use Rattle.pair_types.specs.PageMaps.{PageMap}
@@ -22,6 +23,11 @@ abbrev pub UnderNext : List Entry → List Quad → Type 0
 UnderNext [] quads = Unit {0}
 UnderNext (e ∷ es) quads = All (λ q. IsBelow (quad_bound q) (bound_of e)) quads
 
+-- the records from the next cell on, if there is one
+abbrev pub OverNext : List Entry → List Quad → Type 0
+OverNext [] quads = Unit {0}
+OverNext (e ∷ es) quads = All (λ q. bound_cmp (bound_of e) (quad_bound q) ≢ Greater) quads
+
 -- the child to which a cell leads, with its records, and those of the cells behind it
 pub record Next (p : PageMap) (level : ℕ) (e : Entry) (es : List Entry) (Others : List Quad → Type 0) (quads : List Quad) : Type 0 where
   pub here : List Quad
@@ -34,6 +40,7 @@ pub record Next (p : PageMap) (level : ℕ) (e : Entry) (es : List Entry) (Other
   pub leads : e.body ≡ Leads child
   pub tree : Subtree p level child low high here slots
   pub under : UnderNext es here
+  pub over : OverNext es after
   pub rise : (a : Quad) → Contains here a → All (λ b. IsBelow (quad_bound a) (quad_bound b)) after
   pub others : Others after
 
@@ -41,6 +48,11 @@ pub record Next (p : PageMap) (level : ℕ) (e : Entry) (es : List Entry) (Other
 abbrev pub Along : PageMap → ℕ → List Entry → List Quad → Type 0
 Along p level [] quads = quads ≡ []
 Along p level (e ∷ es) quads = Next p level e es (Along p level es) quads
+
+from_next : (low : Bound) (high : Option Bound) (quads : List Quad) → AllIn low high (map quad_bound quads)
+    → All (λ q. bound_cmp low (quad_bound q) ≢ Greater) quads
+from_next low high [] h = All-nil (λ q. bound_cmp low (quad_bound q) ≢ Greater)
+from_next low high (q ∷ qs) h = All-cons (λ r. bound_cmp low (quad_bound r) ≢ Greater) q qs h.0.from (from_next low high qs h.1)
 
 pub along_kids : (p : PageMap) (level : ℕ) (rest : List Child) (first : Slot) (low : Bound) (high : Option Bound) (quads : List Quad) (slots : List Slot) (b : Bound)
     (key : List ℕ) (birth : ℕ)
@@ -57,6 +69,7 @@ along_kids p level [] first low high quads slots b key birth h rules within = re
   leads = refl;
   tree = h;
   under = tt;
+  over = tt;
   rise = λ a there. All-nil (λ b. IsBelow (quad_bound a) (quad_bound b));
   others = refl;
 }
@@ -75,6 +88,7 @@ along_kids p level (next ∷ rest) first low high quads slots b key birth h rule
       leads = refl;
       tree = h.left;
       under = left;
+      over = from_next next.bound high h.quads_right right;
       rise = λ a there. under_all (quad_bound a) next.bound high h.quads_right (All-contains (λ q. IsBelow (quad_bound q) next.bound) h.quads_left a left there) right;
       others = along_kids p level rest next.slot next.bound high h.quads_right h.slots_right next.bound next.bound.key next.bound.birth h.right rules.1.1 above;
     }

@@ -7,9 +7,8 @@ use Rattle.pair_types.specs.declared.fault.PairFault.{PairFault}
 use Rattle.pair_types.specs.declared.fault.PairFault.TheVariants.{Odd}
 use Rattle.pair_types.specs.PageMaps.{PageMap, Agrees, over}
 use Rattle.pair_types.specs.PageState.{PageState, Reads}
-use Rattle.btree_page.specs.Content.{Bound, Content, Spells}
+use Rattle.btree_page.specs.Content.{Content, Spells}
 use Rattle.btree_page.specs.Tree.{Holds, Subtree, root, least, IsFormed}
-use Rattle.btree_search.specs.declared.aim.Aim.{Aim}
 use Rattle.btree_search.specs.Found.{IsFoundIn, HasNoTree, OnlyReads, HasCause}
 use Rattle.btree_search.specs.Walk.{IsPart, IsShown, Walks}
 use Rattle.btree_search.proofs.Ranges.{root_page}
@@ -54,17 +53,17 @@ root_misshown old new page fault reads is none = odd_cause old new (HasNoTree ne
     let content : Content = record { level = formed.level; cells = top.0 } in
     none content (record { spelled = subst (λ (xs : List ℕ). Spells content xs) (sym same) top.1.spelled; from = omega arith; to = formed.height }))
 
-pub found_in_tree : (aim : Aim) (pair : Bound) (old mid new : PageState) (page : List ℕ) (content : Content) (result : Result (Option Quad) PairFault)
-    → Reads old mid root page → IsShown 0 64 page content → Walks aim pair mid new content result → IfOk result (λ found. IsFoundIn aim pair new found)
-found_in_tree aim pair old mid new page content (Ok found) reads shown walks =
+pub found_in_tree : (Found : List Quad → Option Quad → Type 0) (old mid new : PageState) (page : List ℕ) (content : Content) (result : Result (Option Quad) PairFault)
+    → Reads old mid root page → IsShown 0 64 page content → Walks Found mid new content result → IfOk result (λ found. IsFoundIn Found new found)
+found_in_tree Found old mid new page content (Ok found) reads shown walks =
     λ under agrees quads slots formed. walks.answer under quads (root_part old mid new page content under quads slots reads walks.only shown agrees formed)
-found_in_tree aim pair old mid new page content (Err fault) reads shown walks = tt
+found_in_tree Found old mid new page content (Err fault) reads shown walks = tt
 
-pub cause_in_tree : (aim : Aim) (pair : Bound) (old mid new : PageState) (page : List ℕ) (content : Content) (result : Result (Option Quad) PairFault)
-    → Reads old mid root page → OnlyReads old mid → IsShown 0 64 page content → Walks aim pair mid new content result
+pub cause_in_tree : (Found : List Quad → Option Quad → Type 0) (old mid new : PageState) (page : List ℕ) (content : Content) (result : Result (Option Quad) PairFault)
+    → Reads old mid root page → OnlyReads old mid → IsShown 0 64 page content → Walks Found mid new content result
     → IfErr result (λ fault. HasCause old new (HasNoTree new) fault)
-cause_in_tree aim pair old mid new page content (Ok found) reads only shown walks = tt
-cause_in_tree aim pair old mid new page content (Err fault) reads only shown walks =
+cause_in_tree Found old mid new page content (Ok found) reads only shown walks = tt
+cause_in_tree Found old mid new page content (Err fault) reads only shown walks =
     cause_later old mid new _ (HasNoTree new) fault only
     (λ none under agrees quads slots formed. none under quads (root_part old mid new page content under quads slots reads walks.only shown agrees formed))
     walks.answer

@@ -1,5 +1,6 @@
 -- What is read in a slot is what every tree has there, and what each step of a walk makes of its answer.
 use Rattle.std.proofs.Common.{◌≡◌, ◌≢◌, ℕ, zero, suc, ◌-◌, ◌<◌, ◌≤◌, true, false, List, [], ◌∷◌, map, length, drop, Option, Some, None, IsSome, is_some, unwrap_or, Ok, Err, refl, sym, ap, subst, ◌∙◌, arith}
+use Rattle.nfs3_types.specs.Count.{Rose}
 use Rattle.pair_types.specs.declared.slot.Slot.{Slot}
 use Rattle.pair_types.specs.declared.quad.Quad.{Quad}
 use Rattle.pair_types.specs.declared.fault.PairFault.{PairFault}
@@ -12,7 +13,7 @@ use Rattle.btree_page.proofs.Trees.{has_one_content}
 use Rattle.btree_search.specs.declared.aim.Aim.{Aim}
 use Rattle.btree_search.specs.declared.aim.Aim.TheVariants.{After}
 use Rattle.btree_search.specs.Find.{BeginsAt}
-use Rattle.btree_search.specs.Found.{OnlyReads, HasCause}
+use Rattle.btree_search.specs.Found.{IsFound, OnlyReads, HasCause}
 use Rattle.btree_search.specs.Walk.{InStores, IsPart, HasNoPart, IsShown, LeadsAt, HasNoChild, IsChildPage, Walks}
 use Rattle.btree_search.proofs.Ranges.{root_page, children_rise}
 use Rattle.btree_search.proofs.Parts.{Along, along_kids, Passed, skip, Opened, opens, passes, hits, ends}
@@ -37,10 +38,14 @@ only_same a = record {
   extends = record { at = λ s held is. is };
 }
 
+-- a count that rose after it did not fall rose in all
+pub rose_later : (x y z : ℕ) → x ≤ y → Rose y z → Rose x z
+rose_later x y z le rose = omega (arith, rose)
+
 pub cause_later : (a b c : PageState) (P Q : Type 0) (fault : PairFault) → OnlyReads a b → (P → Q) → HasCause b c P fault → HasCause a c Q fault
 cause_later a b c P Q Odd h f cause = f cause
 cause_later a b c P Q HeightFull h f cause = cause
-cause_later a b c P Q (Page fault) h f cause = λ isnt. omega (arith, h.lasts.faults fault, cause isnt)
+cause_later a b c P Q (Page fault) h f cause = λ isnt. rose_later (a.faults fault) (b.faults fault) (c.faults fault) (h.lasts.faults fault) (cause isnt)
 
 pub odd_cause : (a b : PageState) (P : Type 0) (fault : PairFault) → fault ≡ Odd → P → HasCause a b P fault
 odd_cause a b P fault is p = subst (λ (f : PairFault). HasCause a b P f) (sym is) p
@@ -112,38 +117,35 @@ along_part state content under quads level is part =
     subst (λ (es : List Entry). Along p level es quads) (sym cells)
     (along_kids p level tree.rest tree.first part.low part.high quads tree.below _ [] 0 tree.kids rules tree.within)
 
--- a walk along an inner page: it has only read so far, and in every tree nothing before index i is sought
-pub record Passing (aim : Aim) (pair : Bound) (old now : PageState) (content : Content) (i : ℕ) : Type 0 where
+-- the child to which a cell leads, and its records
+pub record Seen (p : PageMap) (level : ℕ) (cells : List Entry) (i : ℕ) : Type 0 where
+  pub here : List Quad
+  pub child : Slot
+  pub low : Bound
+  pub high : Option Bound
+  pub slots : List Slot
+  pub leads : LeadsAt cells i child
+  pub tree : Subtree p level child low high here slots
+
+-- a walk along an inner page: it has only read so far, and in every tree so much is passed
+pub record Passing (Passed : PageMap → ℕ → List Quad → Type 0) (old now : PageState) (content : Content) : Type 0 where
   pub only : OnlyReads old now
   pub passed : (level : ℕ) → content.level ≡ suc level → (under : PageMap) (quads : List Quad) → IsPart now content under quads
-      → Passed (over now.writes under) level aim pair (drop i content.cells) quads
+      → Passed (over now.writes under) level quads
 
-pub starts : (aim : Aim) (pair : Bound) (state : PageState) (content : Content) (past n : ℕ) → IsPage content → content.level ≢ 0
-    → BeginsAt After pair content.cells past → n ≡ past - 1 → Passing aim pair state state content n
-starts aim pair state content past n rules inner begins is = record {
-  only = only_same state;
-  passed = λ level above under quads part.
-      let many : 2 ≤ length content.cells = rules.least (omega (arith, above)) in
-      skip (over state.writes under) level aim pair n content.cells quads (along_part state content under quads level above part)
-      (omega (arith, begins.within, many, is))
-      (λ k lt e there. begins.before (suc k) (omega (arith, is, lt)) e there);
-}
+-- where so much is passed, a child is seen next
+abbrev pub Sees : (PageMap → ℕ → List Quad → Type 0) → List Entry → ℕ → Type 0
+Sees Passed cells i = (p : PageMap) (level : ℕ) (quads : List Quad) → Passed p level quads → Seen p level cells i
 
 -- what was passed before a read is passed after it
-pub passing_later : (aim : Aim) (pair : Bound) (a b c : PageState) (content : Content) (i : ℕ) → Passing aim pair a b content i → OnlyReads b c
-    → Passing aim pair a c content i
-passing_later aim pair a b c content i h only = record {
+pub passing_later : (Passed : PageMap → ℕ → List Quad → Type 0) (a b c : PageState) (content : Content) → Passing Passed a b content → OnlyReads b c
+    → Passing Passed a c content
+passing_later Passed a b c content h only = record {
   only = only_then a b c h.only only;
   passed = λ level above under quads part.
-      subst (λ (w : PageMap). Passed (over w under) level aim pair (drop i content.cells) quads) (sym only.writes)
+      subst (λ (w : PageMap). Passed (over w under) level quads) (sym only.writes)
       (h.passed level above under quads (part_before b c content under quads only part));
 }
-
-pub opened : (aim : Aim) (pair : Bound) (old now : PageState) (content : Content) (i level : ℕ) (under : PageMap) (quads : List Quad)
-    → Passing aim pair old now content i → content.level ≡ suc level → i < length content.cells → IsPart now content under quads
-    → Opened (over now.writes under) level aim pair content.cells i quads
-opened aim pair old now content i level under quads h above lt part =
-    opens (over now.writes under) level aim pair content.cells i quads lt (h.passed level above under quads part)
 
 -- the page that was read for the child is the one that the tree has there
 pub child_bytes : (a b c : PageState) (content : Content) (i : ℕ) (page bytes : List ℕ) (under : PageMap) (quads : List Quad) (child : Slot)
@@ -158,10 +160,10 @@ child_bytes a b c content i page bytes under quads child read only part leads th
     (subst (λ (w : PageMap). over w under child ≡ Some bytes) only.writes there)
 
 -- the child is a part of the tree, and the page that was read is its uppermost one
-pub child_part : (aim : Aim) (pair : Bound) (a b c : PageState) (content below : Content) (i level : ℕ) (page : List ℕ) (under : PageMap) (quads : List Quad)
+pub child_part : (a b c : PageState) (content below : Content) (i level : ℕ) (page : List ℕ) (under : PageMap) (quads : List Quad)
     → IsChildPage a b content.cells i page → OnlyReads b c → IsShown level level page below → IsPart c content under quads
-    → (h : Opened (over c.writes under) level aim pair content.cells i quads) → IsPart c below under h.here
-child_part aim pair a b c content below i level page under quads read only shown part h =
+    → (h : Seen (over c.writes under) level content.cells i) → IsPart c below under h.here
+child_part a b c content below i level page under quads read only shown part h =
     let root = root_page (over c.writes under) level h.child h.low h.high h.here h.slots h.tree in
     let same : page ≡ root.1.bytes = child_bytes a b c content i page root.1.bytes under quads h.child read only part h.leads root.1.held in
     let on : level ≡ below.level = omega (arith, shown.from, shown.to) in
@@ -176,10 +178,10 @@ child_part aim pair a b c content below i level page under quads read only shown
       tree = subst (λ (n : ℕ). Subtree (over c.writes under) n h.child h.low h.high h.here h.slots) on h.tree;
     }
 
-pub child_shown : (aim : Aim) (pair : Bound) (a b : PageState) (content : Content) (i level : ℕ) (page : List ℕ) (under : PageMap) (quads : List Quad)
+pub child_shown : (a b : PageState) (content : Content) (i level : ℕ) (page : List ℕ) (under : PageMap) (quads : List Quad)
     → IsChildPage a b content.cells i page → IsPart b content under quads
-    → (h : Opened (over b.writes under) level aim pair content.cells i quads) → (below : Content) × IsShown level level page below
-child_shown aim pair a b content i level page under quads read part h =
+    → (h : Seen (over b.writes under) level content.cells i) → (below : Content) × IsShown level level page below
+child_shown a b content i level page under quads read part h =
     let root = root_page (over b.writes under) level h.child h.low h.high h.here h.slots h.tree in
     let same : page ≡ root.1.bytes = child_bytes a b b content i page root.1.bytes under quads h.child read (only_same b) part h.leads root.1.held in
     let shown : IsShown level level page (record { level = level; cells = root.0 }) =
@@ -192,79 +194,130 @@ level_above : (n : ℕ) → n ≢ 0 → n ≡ suc (n - 1)
 level_above n isnt = omega (arith, isnt)
 
 -- the child's page could not be read
-pub lost : (aim : Aim) (pair : Bound) (a b c : PageState) (content : Content) (i : ℕ) (fault : PairFault) → content.level ≢ 0 → i < length content.cells
-    → Passing aim pair a b content i → OnlyReads b c → HasCause b c (HasNoChild content.cells i) fault → Walks aim pair a c content (Err fault)
-lost aim pair a b c content i fault inner lt h only cause =
-    let later = passing_later aim pair a b c content i h only in
+pub lost : (Found : List Quad → Option Quad → Type 0) (Passed : PageMap → ℕ → List Quad → Type 0) (a b c : PageState) (content : Content) (i : ℕ) (fault : PairFault)
+    → content.level ≢ 0 → Sees Passed content.cells i
+    → Passing Passed a b content → OnlyReads b c → HasCause b c (HasNoChild content.cells i) fault → Walks Found a c content (Err fault)
+lost Found Passed a b c content i fault inner sees h only cause =
+    let later = passing_later Passed a b c content h only in
     record {
       only = later.only;
       answer = cause_later a b c (HasNoChild content.cells i) (HasNoPart c content) fault h.only
           (λ none under quads part.
-          let o = opened aim pair a c content i (content.level - 1) under quads later (level_above _ inner) lt part in none o.child o.leads)
+          let o = sees (over c.writes under) (content.level - 1) quads (later.passed (content.level - 1) (level_above _ inner) under quads part) in
+          none o.child o.leads)
           cause;
     }
 
 -- the child's page is no page of the level
-pub misshown : (aim : Aim) (pair : Bound) (a b c : PageState) (content : Content) (i : ℕ) (page : List ℕ) (fault : PairFault) → content.level ≢ 0 → i < length content.cells
-    → Passing aim pair a b content i → OnlyReads b c → IsChildPage b c content.cells i page → fault ≡ Odd
-    → ((below : Content) → IsShown (content.level - 1) (content.level - 1) page below → ⊥) → Walks aim pair a c content (Err fault)
-misshown aim pair a b c content i page fault inner lt h only read is none =
-    let later = passing_later aim pair a b c content i h only in
+pub misshown : (Found : List Quad → Option Quad → Type 0) (Passed : PageMap → ℕ → List Quad → Type 0) (a b c : PageState) (content : Content) (i : ℕ) (page : List ℕ)
+    (fault : PairFault) → content.level ≢ 0 → Sees Passed content.cells i
+    → Passing Passed a b content → OnlyReads b c → IsChildPage b c content.cells i page → fault ≡ Odd
+    → ((below : Content) → IsShown (content.level - 1) (content.level - 1) page below → ⊥) → Walks Found a c content (Err fault)
+misshown Found Passed a b c content i page fault inner sees h only read is none =
+    let later = passing_later Passed a b c content h only in
     record {
       only = later.only;
       answer = odd_cause a c (HasNoPart c content) fault is (λ under quads part.
-          let o = opened aim pair a c content i (content.level - 1) under quads later (level_above _ inner) lt part in
-          let shown = child_shown aim pair b c content i (content.level - 1) page under quads read part o in none shown.0 shown.1);
+          let o = sees (over c.writes under) (content.level - 1) quads (later.passed (content.level - 1) (level_above _ inner) under quads part) in
+          let shown = child_shown b c content i (content.level - 1) page under quads read part o in none shown.0 shown.1);
     }
 
 -- the walk below the child gave up
-pub gave_up : (aim : Aim) (pair : Bound) (a b c d : PageState) (content below : Content) (i : ℕ) (page : List ℕ) (fault : PairFault) → content.level ≢ 0 → i < length content.cells
-    → Passing aim pair a b content i → OnlyReads b c → IsChildPage b c content.cells i page → IsShown (content.level - 1) (content.level - 1) page below
-    → Walks aim pair c d below (Err fault) → Walks aim pair a d content (Err fault)
-gave_up aim pair a b c d content below i page fault inner lt h only read shown walks =
-    let later = passing_later aim pair a b c content i h only in
-    let last = passing_later aim pair a c d content i later walks.only in
+pub gave_up : (Found : List Quad → Option Quad → Type 0) (Passed : PageMap → ℕ → List Quad → Type 0) (a b c d : PageState) (content below : Content) (i : ℕ)
+    (page : List ℕ) (fault : PairFault) → content.level ≢ 0 → Sees Passed content.cells i
+    → Passing Passed a b content → OnlyReads b c → IsChildPage b c content.cells i page → IsShown (content.level - 1) (content.level - 1) page below
+    → Walks Found c d below (Err fault) → Walks Found a d content (Err fault)
+gave_up Found Passed a b c d content below i page fault inner sees h only read shown walks =
+    let later = passing_later Passed a b c content h only in
+    let last = passing_later Passed a c d content later walks.only in
     record {
       only = last.only;
       answer = cause_later a c d (HasNoPart d below) (HasNoPart d content) fault later.only
           (λ none under quads part.
-          let o = opened aim pair a d content i (content.level - 1) under quads last (level_above _ inner) lt part in
-          none under o.here (child_part aim pair b c d content below i (content.level - 1) page under quads read walks.only shown part o))
+          let o = sees (over d.writes under) (content.level - 1) quads (last.passed (content.level - 1) (level_above _ inner) under quads part) in
+          none under o.here (child_part b c d content below i (content.level - 1) page under quads read walks.only shown part o))
           walks.answer;
     }
 
--- the child has the least record
-pub hit : (aim : Aim) (pair : Bound) (a b c d : PageState) (content below : Content) (i : ℕ) (page : List ℕ) (found : Option Quad) → content.level ≢ 0 → i < length content.cells
-    → Passing aim pair a b content i → OnlyReads b c → IsChildPage b c content.cells i page → IsShown (content.level - 1) (content.level - 1) page below
-    → Walks aim pair c d below (Ok found) → is_some found ≡ true → Walks aim pair a d content (Ok found)
-hit aim pair a b c d content below i page None inner lt h only read shown walks some = absurd cc
-hit aim pair a b c d content below i page (Some q) inner lt h only read shown walks some =
-    let last = passing_later aim pair a c d content i (passing_later aim pair a b c content i h only) walks.only in
+-- the child has the record
+pub hit : (Found : List Quad → Option Quad → Type 0) (Passed : PageMap → ℕ → List Quad → Type 0) (a b c d : PageState) (content below : Content) (i : ℕ)
+    (page : List ℕ) (found : Option Quad) → content.level ≢ 0 → (sees : Sees Passed content.cells i)
+    → ((p : PageMap) (level : ℕ) (quads : List Quad) (h : Passed p level quads) (q : Quad) → Found (sees p level quads h).here (Some q) → Found quads (Some q))
+    → Passing Passed a b content → OnlyReads b c → IsChildPage b c content.cells i page → IsShown (content.level - 1) (content.level - 1) page below
+    → Walks Found c d below (Ok found) → is_some found ≡ true → Walks Found a d content (Ok found)
+hit Found Passed a b c d content below i page None inner sees hits h only read shown walks some = absurd cc
+hit Found Passed a b c d content below i page (Some q) inner sees hits h only read shown walks some =
+    let last = passing_later Passed a c d content (passing_later Passed a b c content h only) walks.only in
     record {
       only = last.only;
       answer = λ under quads part.
-          let o = opened aim pair a d content i (content.level - 1) under quads last (level_above _ inner) lt part in
-          hits (over d.writes under) (content.level - 1) aim pair content.cells i quads q o
-          (walks.answer under o.here (child_part aim pair b c d content below i (content.level - 1) page under quads read walks.only shown part o));
+          let passed = last.passed (content.level - 1) (level_above _ inner) under quads part in
+          let o = sees (over d.writes under) (content.level - 1) quads passed in
+          hits (over d.writes under) (content.level - 1) quads passed q
+          (walks.answer under o.here (child_part b c d content below i (content.level - 1) page under quads read walks.only shown part o));
     }
 
 -- the child has none, and the walk goes on
-pub miss : (aim : Aim) (pair : Bound) (a b c d : PageState) (content below : Content) (i n : ℕ) (page : List ℕ) (found : Option Quad) → content.level ≢ 0 → i < length content.cells
-    → Passing aim pair a b content i → OnlyReads b c → IsChildPage b c content.cells i page → IsShown (content.level - 1) (content.level - 1) page below
-    → Walks aim pair c d below (Ok found) → is_some found ≡ false → n ≡ suc i → Passing aim pair a d content n
-miss aim pair a b c d content below i n page (Some q) inner lt h only read shown walks some is = absurd cc
-miss aim pair a b c d content below i n page None inner lt h only read shown walks some is =
-    let last = passing_later aim pair a c d content i (passing_later aim pair a b c content i h only) walks.only in
+pub miss : (Found : List Quad → Option Quad → Type 0) (Passed Next : PageMap → ℕ → List Quad → Type 0) (a b c d : PageState) (content below : Content) (i : ℕ)
+    (page : List ℕ) (found : Option Quad) → content.level ≢ 0 → (sees : Sees Passed content.cells i)
+    → ((p : PageMap) (level : ℕ) (quads : List Quad) (h : Passed p level quads) → Found (sees p level quads h).here None → Next p level quads)
+    → Passing Passed a b content → OnlyReads b c → IsChildPage b c content.cells i page → IsShown (content.level - 1) (content.level - 1) page below
+    → Walks Found c d below (Ok found) → is_some found ≡ false → Passing Next a d content
+miss Found Passed Next a b c d content below i page (Some q) inner sees passes h only read shown walks some = absurd cc
+miss Found Passed Next a b c d content below i page None inner sees passes h only read shown walks some =
+    let last = passing_later Passed a c d content (passing_later Passed a b c content h only) walks.only in
     record {
       only = last.only;
       passed = λ level above under quads part.
-          let o = opened aim pair a d content i level under quads last above lt part in
+          let passed = last.passed level above under quads part in
+          let o = sees (over d.writes under) level quads passed in
           let on : content.level - 1 ≡ level = omega (arith, above) in
           let here : IsShown level level page below = subst (λ (m : ℕ). IsShown m m page below) on shown in
-          subst (λ (m : ℕ). Passed (over d.writes under) level aim pair (drop m content.cells) quads) (sym is)
-          (passes (over d.writes under) level aim pair content.cells i quads o
-          (walks.answer under o.here (child_part aim pair b c d content below i level page under quads read walks.only here part o)));
+          passes (over d.writes under) level quads passed
+          (walks.answer under o.here (child_part b c d content below i level page under quads read walks.only here part o));
     }
+
+-- no child has any
+pub last : (Found : List Quad → Option Quad → Type 0) (Passed : PageMap → ℕ → List Quad → Type 0) (a b : PageState) (content : Content) → content.level ≢ 0
+    → ((p : PageMap) (level : ℕ) (quads : List Quad) → Passed p level quads → Found quads None) → Passing Passed a b content → Walks Found a b content (Ok None)
+last Found Passed a b content inner ends h = record {
+  only = h.only;
+  answer = λ under quads part.
+      ends (over b.writes under) (content.level - 1) quads (h.passed (content.level - 1) (level_above _ inner) under quads part);
+}
+
+-- ---- forwards
+
+-- no record before index i is sought
+abbrev pub Forwards : Aim → Bound → List Entry → ℕ → PageMap → ℕ → List Quad → Type 0
+Forwards aim pair cells i p level quads = Passed p level aim pair (drop i cells) quads
+
+pub starts : (aim : Aim) (pair : Bound) (state : PageState) (content : Content) (past n : ℕ) → IsPage content → content.level ≢ 0
+    → BeginsAt After pair content.cells past → n ≡ past - 1 → Passing (Forwards aim pair content.cells n) state state content
+starts aim pair state content past n rules inner begins is = record {
+  only = only_same state;
+  passed = λ level above under quads part.
+      let many : 2 ≤ length content.cells = rules.least (omega (arith, above)) in
+      skip (over state.writes under) level aim pair n content.cells quads (along_part state content under quads level above part)
+      (omega (arith, begins.within, many, is))
+      (λ k lt e there. begins.before (suc k) (omega (arith, is, lt)) e there);
+}
+
+pub sees_forwards : (aim : Aim) (pair : Bound) (cells : List Entry) (i : ℕ) → i < length cells → Sees (Forwards aim pair cells i) cells i
+sees_forwards aim pair cells i lt p level quads h =
+    let o = opens p level aim pair cells i quads lt h in
+    record { here = o.here; child = o.child; low = o.low; high = o.high; slots = o.slots; leads = o.leads; tree = o.tree }
+
+pub hits_forwards : (aim : Aim) (pair : Bound) (cells : List Entry) (i : ℕ) (lt : i < length cells) (p : PageMap) (level : ℕ) (quads : List Quad)
+    (h : Forwards aim pair cells i p level quads) (q : Quad) → IsFound aim pair (sees_forwards aim pair cells i lt p level quads h).here (Some q) → IsFound aim pair quads (Some q)
+unfolding sees_forwards
+hits_forwards aim pair cells i lt p level quads h q found = hits p level aim pair cells i quads q (opens p level aim pair cells i quads lt h) found
+
+pub passes_forwards : (aim : Aim) (pair : Bound) (cells : List Entry) (i n : ℕ) (lt : i < length cells) → n ≡ suc i → (p : PageMap) (level : ℕ) (quads : List Quad)
+    (h : Forwards aim pair cells i p level quads) → IsFound aim pair (sees_forwards aim pair cells i lt p level quads h).here None → Forwards aim pair cells n p level quads
+unfolding sees_forwards
+passes_forwards aim pair cells i n lt is p level quads h none =
+    subst (λ (m : ℕ). Passed p level aim pair (drop m cells) quads) (sym is) (passes p level aim pair cells i quads (opens p level aim pair cells i quads lt h) none)
 
 drop_past : (cells : List Entry) (n : ℕ) → length cells ≤ n → drop n cells ≡ []
 drop_past [] zero le = refl
@@ -272,13 +325,7 @@ drop_past [] (suc n) le = refl
 drop_past (c ∷ cells) zero le = absurd (omega arith)
 drop_past (c ∷ cells) (suc n) le = drop_past cells n (omega arith)
 
--- no child has any
-pub last : (aim : Aim) (pair : Bound) (a b : PageState) (content : Content) (i : ℕ) → content.level ≢ 0 → length content.cells ≤ i
-    → Passing aim pair a b content i → Walks aim pair a b content (Ok None)
-last aim pair a b content i inner le h = record {
-  only = h.only;
-  answer = λ under quads part.
-      ends (over b.writes under) (content.level - 1) aim pair quads
-      (subst (λ (es : List Entry). Passed (over b.writes under) (content.level - 1) aim pair es quads) (drop_past content.cells i le)
-      (h.passed (content.level - 1) (level_above _ inner) under quads part));
-}
+pub ends_forwards : (aim : Aim) (pair : Bound) (cells : List Entry) (i : ℕ) → length cells ≤ i → (p : PageMap) (level : ℕ) (quads : List Quad)
+    → Forwards aim pair cells i p level quads → IsFound aim pair quads None
+ends_forwards aim pair cells i le p level quads h =
+    ends p level aim pair quads (subst (λ (es : List Entry). Passed p level aim pair es quads) (drop_past cells i le) h)

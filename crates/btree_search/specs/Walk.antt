@@ -1,5 +1,5 @@
 -- What the walk below one page answers.
-use Rattle.std.specs.Prelude.{ℕ, ◌≡◌, ◌<◌, ◌≤◌, List, length, map, Option, Some, None, Result, Ok, Err, IsSome, slice_get}
+use Rattle.std.specs.Prelude.{ℕ, suc, ◌≡◌, ◌<◌, ◌≤◌, List, length, map, Option, Some, None, Result, Ok, Err, IsSome, slice_get}
 use Rattle.pair_types.specs.declared.slot.Slot.{Slot}
 use Rattle.pair_types.specs.declared.quad.Quad.{Quad}
 use Rattle.pair_types.specs.declared.fault.PairFault.{PairFault}
@@ -9,8 +9,9 @@ use Rattle.pair_types.specs.PageState.{PageState, Reads, no_memory}
 use Rattle.btree_page.specs.Content.{Bound, Entry, Leads, Content, Spells}
 use Rattle.btree_page.specs.Tree.{Holds, quad_cell, Subtree}
 use Rattle.btree_search.specs.declared.aim.Aim.{Aim}
+use Rattle.btree_search.specs.declared.aim.Aim.TheVariants.{After}
 use Rattle.btree_search.specs.Find.{BeginsAt}
-use Rattle.btree_search.specs.Found.{IsFound, OnlyReads, HasCause}
+use Rattle.btree_search.specs.Found.{OnlyReads, HasCause}
 
 -- each page lies in one of the stores
 pub record InStores (stores : ℕ) (p : PageMap) : Type 0 where
@@ -28,8 +29,8 @@ pub record IsPart (state : PageState) (content : Content) (under : PageMap) (qua
   pub tree : Subtree (over state.writes under) content.level slot low high quads slots
 
 -- the answer is right of every such part
-abbrev pub IsFoundBelow : Aim → Bound → PageState → Content → Option Quad → Type 0
-IsFoundBelow aim pair state content found = (under : PageMap) (quads : List Quad) → IsPart state content under quads → IsFound aim pair quads found
+abbrev pub IsFoundBelow : (List Quad → Option Quad → Type 0) → PageState → Content → Option Quad → Type 0
+IsFoundBelow Found state content found = (under : PageMap) (quads : List Quad) → IsPart state content under quads → Found quads found
 
 -- there is no such part
 abbrev pub HasNoPart : PageState → Content → Type 0
@@ -52,6 +53,11 @@ abbrev pub IsFirst : Aim → Bound → List Entry → Option Quad → Type 0
 IsFirst aim pair cells (Some q) = (n : ℕ) × BeginsAt aim pair cells n × (slice_get cells n ≡ Some (quad_cell q))
 IsFirst aim pair cells None = (n : ℕ) × BeginsAt aim pair cells n × (length cells ≤ n)
 
+-- the last cell of a leaf at or below the pair is this record, or every cell is above
+abbrev pub IsFinal : Bound → List Entry → Option Quad → Type 0
+IsFinal pair cells (Some q) = (n : ℕ) × BeginsAt After pair cells (suc n) × (slice_get cells n ≡ Some (quad_cell q))
+IsFinal pair cells None = BeginsAt After pair cells 0
+
 -- why the first cell is not answered: it is none of a leaf, or memory ran out
 abbrev pub IsLeafFault : List Entry → PairFault → Type 0
 IsLeafFault cells Odd = (quads : List Quad) → cells ≡ map quad_cell quads → ⊥
@@ -69,11 +75,11 @@ pub record IsChildPage (old new : PageState) (cells : List Entry) (i : ℕ) (pag
   pub reads : Reads old new slot page
 
 -- the answer of a walk is right, or it has a cause
-abbrev pub IsAnswer : Aim → Bound → PageState → PageState → Content → Result (Option Quad) PairFault → Type 0
-IsAnswer aim pair old new content (Ok found) = IsFoundBelow aim pair new content found
-IsAnswer aim pair old new content (Err fault) = HasCause old new (HasNoPart new content) fault
+abbrev pub IsAnswer : (List Quad → Option Quad → Type 0) → PageState → PageState → Content → Result (Option Quad) PairFault → Type 0
+IsAnswer Found old new content (Ok found) = IsFoundBelow Found new content found
+IsAnswer Found old new content (Err fault) = HasCause old new (HasNoPart new content) fault
 
 -- what a walk below a page answers and leaves
-pub record Walks (aim : Aim) (pair : Bound) (old new : PageState) (content : Content) (result : Result (Option Quad) PairFault) : Type 0 where
+pub record Walks (Found : List Quad → Option Quad → Type 0) (old new : PageState) (content : Content) (result : Result (Option Quad) PairFault) : Type 0 where
   pub only : OnlyReads old new
-  pub answer : IsAnswer aim pair old new content result
+  pub answer : IsAnswer Found old new content result

@@ -2,7 +2,7 @@
 
 ghost use Rattle.std.specs.Prelude.{◌≡◌, ◌<◌, length, slice_get};
 ghost use Rattle.btree_search.specs.declared.aim.Aim.TheVariants.{AtOrAfter, After};
-ghost use Rattle.btree_page.specs.Content.{Entry};
+ghost use Rattle.btree_page.specs.Content.{Entry, IsPage};
 ghost use Rattle.btree_search.specs.Find.{BeginsAt, seeks};
 
 use crate::aim::Aim;
@@ -26,7 +26,8 @@ pub fn find_past(view: &PageView<'_>, key: &[u8], birth: u64) -> usize
 
 /// How many cells of a page come before those that are sought, by halving.
 pub(crate) fn first_sought(view: &PageView<'_>, aim: Aim, key: &[u8], birth: u64) -> usize
-    ensures { BeginsAt aim (record { key = key.now; birth = birth }) view.now.cells result }
+    ensures rules { IsPage view.now }
+    ensures begins { BeginsAt aim (record { key = key.now; birth = birth }) view.now.cells result }
 {
     let mut low = 0;
     let mut high = view.count();

@@ -1,9 +1,10 @@
 //! The walk down a tree.
 
-ghost use Rattle.std.specs.Prelude.{◌≡◌, IfOk, IfErr};
-ghost use Rattle.btree_page.specs.Tree.{quad_cell};
+ghost use Rattle.std.specs.Prelude.{◌≡◌, ◌≤◌, length, IfSome, IfOk, IfErr};
+ghost use Rattle.btree_page.specs.Tree.{quad_cell, IsRecord};
 ghost use Rattle.btree_page.specs.Content.{leaf_entry};
-ghost use Rattle.btree_search.specs.Walk.{IsFirst, IsLeafFault, Walks};
+ghost use Rattle.btree_search.specs.Found.{IsFound, IsFloor};
+ghost use Rattle.btree_search.specs.Walk.{IsFirst, IsFinal, IsLeafFault, Walks};
 
 use crate::aim::Aim;
 use crate::find::first_sought;
@@ -21,7 +22,10 @@ fn copy_of(
     death: u64,
     value: &[u8],
 ) -> Result<Quad, NoMemory>
-    ensures { IfOk result (λ q. quad_cell q ≡ leaf_entry key.now birth death value.now) }
+    requires key { length key.now ≤ 264 }
+    requires value { length value.now ≤ 1200 }
+    ensures cell { IfOk result (λ q. quad_cell q ≡ leaf_entry key.now birth death value.now) }
+    ensures record_fits { IfOk result (λ q. IsRecord q) }
 {
     let key = Key::from_slice(alloc, key)?;
     let value = Value::from_slice(alloc, value)?;
@@ -42,6 +46,7 @@ fn first_in(
     birth: u64,
 ) -> Result<Option<Quad>, PairFault>
     ensures first { IfOk result (λ found. IsFirst aim (record { key = key.now; birth = birth }) view.now.cells found) }
+    ensures record_fits { IfOk result (λ found. IfSome found (λ q. IsRecord q)) }
     ensures fault { IfErr result (λ fault. IsLeafFault view.now.cells fault) }
 {
     match view.cell(first_sought(view, aim, key, birth)) {
@@ -58,6 +63,35 @@ fn first_in(
     }
 }
 
+/// The last record of a leaf at or below a key and a birth.
+fn last_in(
+    alloc: Global,
+    view: &PageView<'_>,
+    key: &[u8],
+    birth: u64,
+) -> Result<Option<Quad>, PairFault>
+    ensures last { IfOk result (λ found. IsFinal (record { key = key.now; birth = birth }) view.now.cells found) }
+    ensures record_fits { IfOk result (λ found. IfSome found (λ q. IsRecord q)) }
+    ensures fault { IfErr result (λ fault. IsLeafFault view.now.cells fault) }
+{
+    let past = first_sought(view, Aim::After, key, birth);
+    if past == 0 {
+        return Ok(None);
+    }
+    match view.cell(past - 1) {
+        Some(
+            Cell::Leaf {
+                key,
+                birth,
+                death,
+                value,
+            },
+        ) => Ok(Some(copy_of(alloc, key, birth, death, value)?)),
+        Some(Cell::Inner { .. }) => Err(PairFault::Odd),
+        None => Err(PairFault::Odd),
+    }
+}
+
 /// The least sought record below a page: where the child into which the key and the birth fall has
 /// none, the first of the children behind it that has one.
 pub(crate) fn walk<G: Pages>(
@@ -68,7 +102,8 @@ pub(crate) fn walk<G: Pages>(
     key: &[u8],
     birth: u64,
 ) -> Result<Option<Quad>, PairFault>
-    ensures { Walks aim (record { key = key.now; birth = birth }) (G.state pages.old) (G.state pages.new) view.now result }
+    ensures walks { Walks (IsFound aim (record { key = key.now; birth = birth })) (G.state pages.old) (G.state pages.new) view.now result }
+    ensures record_fits { IfOk result (λ found. IfSome found (λ q. IsRecord q)) }
 {
     let level = view.level();
     if level == 0 {
@@ -85,6 +120,46 @@ pub(crate) fn walk<G: Pages>(
             Err(fault) => return Err(fault),
         };
         match walk(alloc, pages, &below, aim, key, birth) {
+            Ok(found) => {
+                if found.is_some() {
+                    return Ok(found);
+                }
+            }
+            Err(fault) => return Err(fault),
+        }
+    }
+    Ok(None)
+}
+
+/// The greatest record at or below a key and a birth below a page: where the child into which they
+/// fall has none, the last of the children before it that has one.
+pub(crate) fn walk_back<G: Pages>(
+    alloc: Global,
+    pages: &mut G,
+    view: &PageView<'_>,
+    key: &[u8],
+    birth: u64,
+) -> Result<Option<Quad>, PairFault>
+    ensures walks { Walks (IsFloor (record { key = key.now; birth = birth })) (G.state pages.old) (G.state pages.new) view.now result }
+    ensures record_fits { IfOk result (λ found. IfSome found (λ q. IsRecord q)) }
+{
+    let level = view.level();
+    if level == 0 {
+        return last_in(alloc, view, key, birth);
+    }
+    // Of an inner page the first cell lies at or below every place.
+    let past = first_sought(view, Aim::After, key, birth).max(1);
+    for back in 0..past {
+        let i = past - 1 - back;
+        let page = match load_child(pages, view, i) {
+            Ok(page) => page,
+            Err(fault) => return Err(fault),
+        };
+        let below = match view_of(&page, level - 1, level - 1) {
+            Ok(below) => below,
+            Err(fault) => return Err(fault),
+        };
+        match walk_back(alloc, pages, &below, key, birth) {
             Ok(found) => {
                 if found.is_some() {
                     return Ok(found);

@@ -188,5 +188,5 @@ read_so old new s page within beyond page_within page_beyond =
           writes = ap (λ (a : PageState). a.writes) same;
           learns = λ under. absurd (omega arith);
           latest = λ under. absurd (omega arith);
-          beyond = λ _. (page_beyond (omega (arith, ap (λ (a : PageState). a.stores) same)), ap (λ (a : PageState). a.reads) same);
+          beyond = λ _. (page_beyond (omega (arith, ap (λ (a : PageState). a.stores) same)), same);
         }

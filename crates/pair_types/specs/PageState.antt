@@ -1,5 +1,6 @@
 -- What a transaction over pages has read and written, and what each of its calls changes of it.
 use Rattle.std.specs.Prelude.{ℕ, ◌≡◌, ◌≢◌, ◌<◌, ◌≤◌, List, [], Option, Some, None, IsSome}
+use Rattle.nfs3_types.specs.Count.{Rose}
 use Rattle.pair_types.specs.declared.slot.Slot.{Slot}
 use Rattle.pair_types.specs.declared.fault.PageFault.{PageFault}
 use Rattle.pair_types.specs.declared.fault.PageFault.TheVariants.{Step}
@@ -32,13 +33,13 @@ pub record Lasts (old new : PageState) : Type 0 where
   pub faults : (fault : PageFault) → old.faults fault ≤ new.faults fault
 
 -- a read of slot s answers this page: the latest in that slot, which is known from now on; beyond
--- the stores the empty page, and nothing is asked
+-- the stores the empty page, where nothing is asked, so that nothing changes
 pub record Reads (old new : PageState) (s : Slot) (page : List ℕ) : Type 0 where
   pub lasts : Lasts old new
   pub writes : new.writes ≡ old.writes
   pub learns : s.store < old.stores → Learns old.reads new.reads s
   pub latest : s.store < old.stores → page ≡ latest new.writes new.reads s
-  pub beyond : old.stores ≤ s.store → (page ≡ []) × (new.reads ≡ old.reads)
+  pub beyond : old.stores ≤ s.store → (page ≡ []) × (new ≡ old)
 
 -- a write puts this page into slot s, which is read first if it was not yet known
 pub record Writes (old new : PageState) (s : Slot) (page : List ℕ) : Type 0 where
@@ -63,4 +64,9 @@ pub record GivesUp (old new : PageState) (fault : PageFault) : Type 0 where
   pub writes : new.writes ≡ old.writes
   pub extends : Extends old.reads new.reads
   pub unchanged : fault ≡ no_memory → new.reads ≡ old.reads
-  pub counted : fault ≢ no_memory → old.faults fault < new.faults fault
+  pub counted : fault ≢ no_memory → Rose (old.faults fault) (new.faults fault)
+
+-- a read of slot s gives up, which it never does beyond the stores
+pub record ReadFails (old new : PageState) (s : Slot) (fault : PageFault) : Type 0 where
+  pub within : s.store < old.stores
+  pub gives_up : GivesUp old new fault

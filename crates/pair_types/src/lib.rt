@@ -7,24 +7,17 @@
 #![tactic(auto)]
 
 mod fault;
-mod key;
 mod mem_pages;
-mod name;
 mod page;
 mod pages;
 mod quad;
 mod slot;
-mod value;
+mod texts;
 
 pub use fault::{Cross, PageFault, PairFault, StepFault};
-pub use key::Key;
 pub use mem_pages::MemPages;
-pub use name::Name;
 pub use page::Page;
 pub use pages::Pages;
 pub use quad::Quad;
 pub use slot::{Slot, Tid};
-pub use value::Value;
-
-#[cfg(test)]
-mod tests;
+pub use texts::{KEY_LIMIT, Key, NAME_LIMIT, Name, VALUE_LIMIT, Value};

@@ -66,6 +66,7 @@ impl MemPages {
         ensures beyond { self.old.stores ≤ s.store → state_of self.new ≡ state_of self.old }
         ensures err { OnErr result (state_of self.new ≡ state_of self.old) }
         ensures fault { IfErr result (λ fault. fault ≡ no_memory) }
+        ensures within { OnErr result (s.store < self.old.stores) }
     {
         if s.store >= self.stores {
             return Ok(());
@@ -127,6 +128,10 @@ impl Pages for MemPages {
     ghost state = { state_of };
 
     ghost sound = { state_of-sound };
+
+    fn stores(&self) -> u32 {
+        self.stores
+    }
 
     fn read(&mut self, s: Slot) -> Result<&Page, PageFault> {
         match self.mark(s) {

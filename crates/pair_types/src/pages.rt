@@ -1,9 +1,9 @@
 //! A transaction over pages.
 
-ghost use Rattle.std.specs.Prelude.{◌<◌, MatchResult};
+ghost use Rattle.std.specs.Prelude.{◌≡◌, ◌<◌, ◌≤◌, MatchResult};
 ghost use Rattle.std.specs.Borrow.{sem};
 ghost use Rattle.std.specs.Io.BufRead.{Rests};
-ghost use Rattle.pair_types.specs.PageState.{PageState, IsSound, Reads, Writes, Freshens, GivesUp};
+ghost use Rattle.pair_types.specs.PageState.{PageState, IsSound, Reads, ReadFails, Writes, Freshens, GivesUp};
 
 use crate::fault::PageFault;
 use crate::page::Page;
@@ -15,12 +15,16 @@ pub trait Pages {
     /// What was read and written so far.
     ghost state: { Self → PageState };
 
-    /// The page in a slot: what was written there last, else what lies there. An absent slot, and a
-    /// slot beyond the stores, reads as the empty page.
+    /// The number of stores, which no call changes. It takes no memory.
+    fn stores(&self) -> u32
+        ensures { result ≡ (state self.now).stores };
+
+    /// The page in a slot: what was written there last, else what lies there. An absent slot reads
+    /// as the empty page, and so does a slot beyond the stores, of which nothing is asked.
     fn read(&mut self, s: Slot) -> Result<&Page, PageFault>
         ensures* after_borrow { sem 𝓛 (Rests Self.row self.entry (λ now. MatchResult result
             (λ page. Reads (state self.old) (state now) s page.now)
-            (λ fault. GivesUp (state self.old) (state now) fault))) };
+            (λ fault. ReadFails (state self.old) (state now) s fault))) };
 
     /// Writes a page into a slot, which is read first where it was not yet read.
     fn write(&mut self, s: Slot, p: Page) -> Result<(), PageFault>

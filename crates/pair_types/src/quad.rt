@@ -1,7 +1,6 @@
 //! Versioned records.
 
-use crate::key::Key;
-use crate::value::Value;
+use crate::texts::{Key, Value};
 
 /// A versioned record: a value at a key, from its birth up to, and not including, its death.
 #[derive(Debug, Drop)]

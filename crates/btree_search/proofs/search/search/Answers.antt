@@ -11,11 +11,11 @@ returns-in-Err-view_of-clause-fault g c =
 
 pub returns-clause-found : goal.returns-clause-found
 returns-clause-found g c =
-    found_in_tree c.args.aim _ (g.G.Pages.state c.args.pages.now) (g.G.Pages.state c.load.new.pages) (g.G.Pages.state c.walk.new.pages) c.in-Ok.page c.in-Ok-view_of.view c.walk.result c.in-Ok.ensures.page c.in-Ok-view_of.ensures.shown c.walk.ensures
+    found_in_tree _ (g.G.Pages.state c.args.pages.now) (g.G.Pages.state c.load.new.pages) (g.G.Pages.state c.walk.new.pages) c.in-Ok.page c.in-Ok-view_of.view c.walk.result c.in-Ok.ensures.page c.in-Ok-view_of.ensures.shown c.walk.ensures.walks
 
 pub returns-clause-only_reads : goal.returns-clause-only_reads
-returns-clause-only_reads g c = only_then _ _ _ c.in-Ok.ensures.only_reads c.walk.ensures.only
+returns-clause-only_reads g c = only_then _ _ _ c.in-Ok.ensures.only_reads c.walk.ensures.walks.only
 
 pub returns-clause-fault : goal.returns-clause-fault
 returns-clause-fault g c =
-    cause_in_tree c.args.aim _ (g.G.Pages.state c.args.pages.now) (g.G.Pages.state c.load.new.pages) (g.G.Pages.state c.walk.new.pages) c.in-Ok.page c.in-Ok-view_of.view c.walk.result c.in-Ok.ensures.page c.in-Ok.ensures.only_reads c.in-Ok-view_of.ensures.shown c.walk.ensures
+    cause_in_tree _ (g.G.Pages.state c.args.pages.now) (g.G.Pages.state c.load.new.pages) (g.G.Pages.state c.walk.new.pages) c.in-Ok.page c.in-Ok-view_of.view c.walk.result c.in-Ok.ensures.page c.in-Ok.ensures.only_reads c.in-Ok-view_of.ensures.shown c.walk.ensures.walks

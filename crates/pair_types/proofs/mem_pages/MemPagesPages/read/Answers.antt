@@ -4,7 +4,7 @@ use Rattle.pair_types.proofs.mem_pages.MemPagesPages.read.Goals as goal
 
 pub returns-in-Err : goal.returns-in-Err
 returns-in-Err c =
-    ((refl, λ _. tt, gives_up_unchanged _ _ _ c.in-Err.ensures.err c.in-Err.ensures.fault), record { after_borrow = tt })
+    ((refl, λ _. tt, record { within = c.in-Err.ensures.within; gives_up = gives_up_unchanged _ _ _ c.in-Err.ensures.err c.in-Err.ensures.fault }), record { after_borrow = tt })
 
 pub returns-in-Ok : goal.returns-in-Ok
 returns-in-Ok c = (
