@@ -15,7 +15,7 @@ use Rattle.btree_page.proofs.Trees.{among_left, among_right, among_either}
 use Rattle.btree_search.proofs.Order.{bound_total, cells_rise}
 use Rattle.btree_search.proofs.Ranges.{is_inner}
 use Rattle.btree_edit.specs.declared.change.Change.{Change}
-use Rattle.btree_edit.specs.Edited.{Frame}
+use Rattle.btree_edit.specs.Edited.{Room, room_in, Frame}
 use Rattle.btree_edit.specs.Made.{size, behind, IsNearly, IsSplit}
 use Rattle.btree_edit.specs.Changes.{pair_of, edit_of, given_of, open_of}
 use Rattle.btree_edit.specs.Below.{BearsRecords, BearsKids, Changed, ChangesTo, Parted, Grows, Divides}
@@ -175,7 +175,7 @@ some_first (x ∷ xs) lt = (x, refl)
 
 -- ---- the two pages
 
-pub parted : (Edit : List Quad → List Quad → Type 0) (store : Option ℕ) (stores : ℕ) (p q : PageMap) (level : ℕ) (cells : List Entry) (low : Bound) (high : Option Bound) (quads : List Quad) (below : List Slot)
+pub parted : (Edit : List Quad → List Quad → Type 0) (store : Option Room) (stores : ℕ) (p q : PageMap) (level : ℕ) (cells : List Entry) (low : Bound) (high : Option Bound) (quads : List Quad) (below : List Slot)
     (at : ℕ) (edge : Entry) → Changed Edit store stores p q level cells low high quads below → AreCells (level == 0) None cells → 0 < at → (0 < level → 2 ≤ at) → slice_get cells at ≡ Some edge
     → Parted Edit store stores p q level (take at cells) (bound_of edge) (behind (drop at cells)) low high quads below
 parted Edit store stores p q zero cells low high quads below at edge c rules some more there =
@@ -295,8 +295,8 @@ divided change store a z content cells left bound right changes near split grows
       many = λ up. omega (arith, inner_few content.level cells up near.rules split.full);
       grows = grows;
       parts = λ under low high quads below met.
-          subst (λ (b : Bound). Parted (edit_of change) (open_of change store) z.stores (over a.writes under) (over z.writes under) content.level (take split.at cells) b (behind (drop split.at cells)) low high quads below) is
-          (parted (edit_of change) (open_of change store) z.stores (over a.writes under) (over z.writes under) content.level cells low high quads below split.at x.0
+          subst (λ (b : Bound). Parted (edit_of change) (room_in (open_of change store) a) z.stores (over a.writes under) (over z.writes under) content.level (take split.at cells) b (behind (drop split.at cells)) low high quads below) is
+          (parted (edit_of change) (room_in (open_of change store) a) z.stores (over a.writes under) (over z.writes under) content.level cells low high quads below split.at x.0
           (changes under low high quads below met) near.rules split.some
           (λ up. omega (arith, split.left_page.rules.least up, length-take-le split.at cells (omega (arith, split.within)))) x.1);
     }

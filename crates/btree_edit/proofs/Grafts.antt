@@ -26,17 +26,17 @@ use Rattle.btree_search.specs.Found.{OnlyReads, HasCause}
 use Rattle.btree_search.specs.Walk.{InStores, IsShown, LeadsAt}
 use Rattle.btree_search.proofs.Order.{bound_total, turned}
 use Rattle.btree_edit.specs.declared.change.Change.{Change}
-use Rattle.btree_edit.specs.declared.change.Change.TheVariants.{Remove, Replace, Insert}
+use Rattle.btree_edit.specs.declared.change.Change.TheVariants.{Remove, End, Replace, Insert}
 use Rattle.btree_edit.specs.declared.outcome.Edited.{Edited}
 use Rattle.btree_edit.specs.declared.outcome.Edited.TheVariants.{Missing, Below, Page, Two}
 use Rattle.btree_edit.specs.Edits.{bound_at, Nothing, Lacks, IsLonger}
-use Rattle.btree_edit.specs.Edited.{IsOpen, Frame, GoesOn}
+use Rattle.btree_edit.specs.Edited.{Room, room_in, IsOpen, Frame, GoesOn}
 use Rattle.btree_edit.specs.Changes.{pair_of, edit_of, given_of, open_of}
 use Rattle.btree_edit.specs.Below.{Bears, IsMet, Changed, ChangesTo, Parted, IsNotMet, StaysFrom, Grows, Divides, IsEdited, EditsBelow, PutsTwo, GaveUp, Grafts, IsNoGraft}
 use Rattle.btree_edit.proofs.Least.{least_first, up_to}
 use Rattle.btree_edit.proofs.Opened.{Seated, closed, bears_keep, kids_present, some_not_none, slot_cases}
 use Rattle.btree_edit.proofs.Seats.{from_of, to_of}
-use Rattle.btree_edit.proofs.Rebuilt.{not_open, some_held, reseated}
+use Rattle.btree_edit.proofs.Rebuilt.{not_open, some_held, reseated, unread_before, parted_before}
 use Rattle.btree_edit.proofs.Divided.{divided}
 use Rattle.btree_edit.proofs.States.{goes_only, goes_then, reads_latest, shown_within, MetChild, met_child, no_page}
 use Rattle.btree_edit.proofs.Steps.{level_above, stays_up, met_earlier, local_of, partial_of}
@@ -49,7 +49,7 @@ bears_present q (suc level) cells low high quads below h s there = kids_present 
 -- ---- two children from two pages
 
 -- the parts lie in the slot of the child and in one that was absent
-pub twins : (Edit : List Quad → List Quad → Type 0) (asked : ℕ) (store : Option ℕ) (stores : ℕ) (p mid q : PageMap) (level : ℕ) (slot fresh : Slot) (low : Bound) (high : Option Bound) (quads : List Quad) (slots : List Slot)
+pub twins : (Edit : List Quad → List Quad → Type 0) (asked : ℕ) (store : Option Room) (stores : ℕ) (p mid q : PageMap) (level : ℕ) (slot fresh : Slot) (low : Bound) (high : Option Bound) (quads : List Quad) (slots : List Slot)
     (h : Seated p level slot low high quads slots) (front : List Entry) (bound : Bound) (back : List Entry) (left right : List ℕ)
     (c : Parted Edit store stores p mid level front bound back low high quads h.below)
     → p fresh ≡ None → mid fresh ≡ None → IsOpen store p fresh → q slot ≡ Some left → q fresh ≡ Some right
@@ -200,10 +200,12 @@ unwritten_before a c s sound later unread = none_of_page (a.writes s) (λ writte
     differ : (r : Option (Option (List ℕ))) (x : Option (List ℕ)) → r ≡ None → r ≡ Some x → ⊥
     differ r x p q = cc
 
-open_free : (change : Change) (store : ℕ) (p : PageMap) (s : Slot) (old new : PageState) (content : Content) → Grows change old new content → p s ≡ None → s.store ≡ store → IsOpen (open_of change store) p s
-open_free (Remove key birth) store p s old new content grows absent there = absurd grows
-open_free (Replace q) store p s old new content grows absent there = (absent, there)
-open_free (Insert q) store p s old new content grows absent there = (absent, there)
+pub open_free : (change : Change) (store : ℕ) (a : PageState) (p : PageMap) (s : Slot) (old new : PageState) (content : Content) → Grows change old new content
+    → p s ≡ None → s.store ≡ store → a.reads s ≡ None → IsOpen (room_in (open_of change store) a) p s
+open_free (Remove key birth) store a p s old new content grows absent there unread = absurd grows
+open_free (End key birth death) store a p s old new content grows absent there unread = absurd grows
+open_free (Replace q) store a p s old new content grows absent there unread = (absent, (there, unread))
+open_free (Insert q) store a p s old new content grows absent there unread = (absent, (there, unread))
 
 longer_lacks : (q : Quad) (quads : List Quad) → Lacks (quad_bound q) quads → IsLonger q quads
 longer_lacks q quads h = All-weaker (λ r. quad_bound r ≢ quad_bound q) (λ r. quad_bound r ≡ quad_bound q → length r.value < length q.value) (λ r lacks same. absurd (lacks same)) quads h
@@ -232,7 +234,7 @@ put_later change store a b c d content below past i slot page left bound right f
 record MetParts (change : Change) (store : ℕ) (a b c d : PageState) (content below : Content) (i : ℕ) (slot : Slot) (page : List ℕ) (front : List Entry) (bound : Bound) (back : List Entry)
     (under : PageMap) (low : Bound) (high : Option Bound) (quads : List Quad) (slots : List Slot) : Type 0 where
   m : MetChild (given_of change) (pair_of change) a b d content below under low high quads slots (content.level - 1) i slot page
-  parted : Parted (edit_of change) (open_of change store) c.stores (over a.writes under) (over c.writes under) (content.level - 1) front bound back
+  parted : Parted (edit_of change) (room_in (open_of change store) a) c.stores (over a.writes under) (over c.writes under) (content.level - 1) front bound back
       m.sought.seat.from m.sought.seat.to m.sought.seat.here m.sought.inner.below
 
 met_parts : (change : Change) (store : ℕ) (a b c d : PageState) (content below : Content) (past i : ℕ) (slot : Slot) (page left : List ℕ) (bound : Bound) (right : List ℕ) (fresh : Slot)
@@ -246,14 +248,17 @@ met_parts change store a b c d content below past i slot page left bound right f
     let before = met_earlier (given_of change) (pair_of change) b c d below under s.seat.from s.seat.to s.seat.here s.inner.below w.puts.goes_on m.met in
     record {
       m = m;
-      parted = subst (λ (n : ℕ). Parted (edit_of change) (open_of change store) c.stores (over a.writes under) (over c.writes under) n w.parts.front bound w.parts.back s.seat.from s.seat.to s.seat.here s.inner.below) m.on
-          (subst (λ (v : PageMap). Parted (edit_of change) (open_of change store) c.stores (over v under) (over c.writes under) below.level w.parts.front bound w.parts.back s.seat.from s.seat.to s.seat.here s.inner.below) w.reads.writes
-          (w.parts.parts under s.seat.from s.seat.to s.seat.here s.inner.below before));
+      parted = parted_before (edit_of change) (open_of change store) a b c.stores (over a.writes under) (over c.writes under) (content.level - 1) w.parts.front bound w.parts.back
+          s.seat.from s.seat.to s.seat.here s.inner.below w.only.extends
+          (subst (λ (n : ℕ). Parted (edit_of change) (room_in (open_of change store) b) c.stores (over a.writes under) (over c.writes under) n w.parts.front bound w.parts.back s.seat.from s.seat.to s.seat.here s.inner.below) m.on
+          (subst (λ (v : PageMap). Parted (edit_of change) (room_in (open_of change store) b) c.stores (over v under) (over c.writes under) below.level w.parts.front bound w.parts.back s.seat.from s.seat.to s.seat.here s.inner.below) w.reads.writes
+          (w.parts.parts under s.seat.from s.seat.to s.seat.here s.inner.below before)));
     }
 
 grows_up : (change : Change) (store : ℕ) (a b c d : PageState) (content below : Content) (past i : ℕ) (slot : Slot) (page left : List ℕ) (bound : Bound) (right : List ℕ) (fresh : Slot)
     → WasPut change store a b c d content below past i slot page left bound right fresh → Grows change a d content
 grows_up (Remove key birth) store a b c d content below past i slot page left bound right fresh w = w.parts.grows
+grows_up (End key birth death) store a b c d content below past i slot page left bound right fresh w = w.parts.grows
 grows_up (Insert q) store a b c d content below past i slot page left bound right fresh w = tt
 grows_up (Replace q) store a b c d content below past i slot page left bound right fresh w = λ under low high quads slots met.
     let m = met_child Nothing (partial_of (Replace q)) (quad_bound q.now) a b d content below under low high quads slots (content.level - 1) past i slot page met (level_above _ w.inner) w.begins w.at w.leads w.reads
@@ -277,6 +282,7 @@ graft_changes change store a b c d content below past i slot page left bound rig
     let q = over d.writes under in
     let under_none : under fresh ≡ None = met.agrees.at fresh None w.puts.absent in
     let a_none : a.writes fresh ≡ None = unwritten_before a c fresh w.sound (goes_then a b c (goes_only a b w.only) w.goes).extends w.puts.unread in
+    let unread : a.reads fresh ≡ None = unread_before a.reads c.reads fresh (goes_then a b c (goes_only a b w.only) w.goes).extends w.puts.unread in
     let absent : p fresh ≡ None = ap (λ (o : Option (List ℕ)). laid o (under fresh)) a_none ∙ under_none in
     let missing : mid fresh ≡ None = ap (λ (o : Option (List ℕ)). laid o (under fresh)) w.puts.unwritten ∙ under_none in
     let some : IsSome (p s.seat.child) = some_held p s.seat.child _ s.inner.page in
@@ -287,8 +293,8 @@ graft_changes change store a b c d content below past i slot page left bound rig
     λ t apart other. ap (λ (o : Option (List ℕ)). laid o (under t)) (w.puts.others t (λ is. apart (is ∙ sym x.m.is_child)) other) in
     let front_page : Spells (record { level = content.level - 1; cells = w.parts.front }) left = subst (λ (n : ℕ). Spells (record { level = n; cells = w.parts.front }) left) x.m.on w.parts.left_page in
     let back_page : Spells (record { level = content.level - 1; cells = w.parts.back }) right = subst (λ (n : ℕ). Spells (record { level = n; cells = w.parts.back }) right) x.m.on w.parts.right_page in
-    let t = twins (edit_of change) store (open_of change store) c.stores p mid q (content.level - 1) s.seat.child fresh s.seat.from s.seat.to s.seat.here s.seat.slots_here s.inner w.parts.front bound w.parts.back left right x.parted
-    absent missing (open_free change store p fresh b c below w.parts.grows absent w.puts.in_store) left_put right_put front_page back_page others in
+    let t = twins (edit_of change) store (room_in (open_of change store) a) c.stores p mid q (content.level - 1) s.seat.child fresh s.seat.from s.seat.to s.seat.here s.seat.slots_here s.inner w.parts.front bound w.parts.back left right x.parted
+    absent missing (open_free change store a p fresh b c below w.parts.grows absent w.puts.in_store unread) left_put right_put front_page back_page others in
     let new : Child = record { bound = bound; slot = fresh } in
     let kids : Kids (Subtree q (content.level - 1)) s.seat.child s.seat.from (new ∷ []) s.seat.to (x.parted.after_left ++ x.parted.after_right)
     ((s.seat.child ∷ x.parted.reached_left) ++ (fresh ∷ x.parted.reached_right)) = record {
@@ -313,13 +319,13 @@ graft_changes change store a b c d content below past i slot page left bound rig
           (slot_cases y slot);
     } in
     let wide = allin_insert low high s.rest i new s.within (s.seat.widens bound x.parted.inside) in
-    let done = reseated (edit_of change) (local_of change) (open_of change store) c.stores p q (content.level - 1) (pair_of change) i s.rest s.first low high quads slots s.seat (new ∷ []) (x.parted.after_left ++ x.parted.after_right)
+    let done = reseated (edit_of change) (local_of change) (room_in (open_of change store) a) c.stores p q (content.level - 1) (pair_of change) i s.rest s.first low high quads slots s.seat (new ∷ []) (x.parted.after_left ++ x.parted.after_right)
     ((s.seat.child ∷ x.parted.reached_left) ++ (fresh ∷ x.parted.reached_right)) x.parted.edit stored kids t.3 wide in
     let cells : inner_entry [] 0 s.first ∷ map child_cell (take i s.rest ++ ((new ∷ []) ++ drop i s.rest)) ≡ insert content.cells (suc i) (child_cell new) =
     ap (λ (es : List Entry). inner_entry [] 0 s.first ∷ es) (insert_child s.rest i new) ∙ ap (λ (es : List Entry). insert es (suc i) (child_cell new)) (sym s.children) in
-    subst (λ (n : ℕ). Changed (edit_of change) (open_of change store) n p q content.level (insert content.cells (suc i) (child_cell new)) low high quads slots) (sym w.puts.goes_on.lasts.stores)
-    (subst (λ (n : ℕ). Changed (edit_of change) (open_of change store) c.stores p q n (insert content.cells (suc i) (child_cell new)) low high quads slots) (sym (level_above _ w.inner))
-    (subst (λ (es : List Entry). Changed (edit_of change) (open_of change store) c.stores p q (suc (content.level - 1)) es low high quads slots) cells done))
+    subst (λ (n : ℕ). Changed (edit_of change) (room_in (open_of change store) a) n p q content.level (insert content.cells (suc i) (child_cell new)) low high quads slots) (sym w.puts.goes_on.lasts.stores)
+    (subst (λ (n : ℕ). Changed (edit_of change) (room_in (open_of change store) a) c.stores p q n (insert content.cells (suc i) (child_cell new)) low high quads slots) (sym (level_above _ w.inner))
+    (subst (λ (es : List Entry). Changed (edit_of change) (room_in (open_of change store) a) c.stores p q (suc (content.level - 1)) es low high quads slots) cells done))
 
 -- what was written lay on lower levels
 graft_stays : (change : Change) (store : ℕ) (a b c d : PageState) (content below : Content) (past i : ℕ) (slot : Slot) (page left : List ℕ) (bound : Bound) (right : List ℕ) (fresh : Slot)

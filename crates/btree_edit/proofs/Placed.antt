@@ -1,5 +1,5 @@
 -- Cells of a page with one removed, put in the place of another, or put in between.
-use Rattle.std.proofs.Common.{◌≡◌, ◌≢◌, ℕ, zero, suc, ◌+◌, ◌-◌, ◌<◌, ◌≤◌, Bool, true, false, List, [], ◌∷◌, map, length, take, drop, get_or, set, Option, Some, None, Result, Ok, Err, refl, sym, ap, subst, ◌∙◌, arith}
+use Rattle.std.proofs.Common.{◌≡◌, ◌≢◌, ℕ, zero, suc, ◌+◌, ◌-◌, ◌^◌, ◌<◌, ◌≤◌, Bool, true, false, List, [], ◌∷◌, map, length, take, drop, get_or, set, Option, Some, None, Result, Ok, Err, refl, sym, ap, subst, ◌∙◌, arith}
 use Rattle.std.specs.Prelude.{◌==◌, All, slice_get, IfOk}
 use Rattle.std.specs.List.{flat_map, remove, insert}
 use Rattle.std.specs.declared.cmp.Ordering.{Ordering}
@@ -11,8 +11,9 @@ use Rattle.pair_types.specs.declared.slot.Slot.{Slot}
 use Rattle.pair_types.specs.declared.quad.Quad.{Quad}
 use Rattle.btree_page.specs.declared.cell.Cell.{Cell}
 use Rattle.btree_page.specs.Cells.{entry_of}
-use Rattle.btree_page.specs.Content.{Bound, IsBelow, Entry, Content, bound_of, entry_spelling, Fits, Follows, AreCells, IsPage, inner_entry}
+use Rattle.btree_page.specs.Content.{Bound, IsBelow, Body, Carries, Leads, Entry, Content, bound_of, entry_spelling, Fits, FitsBody, Follows, AreCells, IsPage, inner_entry}
 use Rattle.btree_page.specs.Tree.{quad_bound, quad_cell}
+use Rattle.btree_page.proofs.Built.{leaf_size}
 use Rattle.btree_search.specs.declared.aim.Aim.TheVariants.{AtOrAfter, After}
 use Rattle.btree_search.specs.Aim.{is_sought}
 use Rattle.btree_search.specs.Find.{BeginsAt}
@@ -21,7 +22,7 @@ use Rattle.btree_search.proofs.Ranges.{is_inner}
 use Rattle.btree_edit.specs.declared.outcome.Edited.{Edited}
 use Rattle.btree_edit.specs.declared.outcome.Edited.TheVariants.{Missing, Below, Page, Two}
 use Rattle.btree_edit.specs.Made.{size, IsNearly, IsMadeOf}
-use Rattle.btree_edit.specs.Changes.{RemovesCell, ReplacesCell, InsertsCell, AreMade, Answers}
+use Rattle.btree_edit.specs.Changes.{ended_body, ended, RemovesCell, EndsCell, ReplacesCell, InsertsCell, AreMade, Answers}
 use Rattle.btree_edit.proofs.Lists.{size_of_page, size-append, parts_of_cells, joined_cells, at_place, map_remove, above_before}
 use Rattle.btree_edit.proofs.Parting.{short_body, size_parts}
 use Rattle.btree_edit.proofs.Leaves.{found_at}
@@ -92,6 +93,31 @@ size_remove cells at lt =
       length-append (entry_spelling x.0) (flat_map entry_spelling (drop (suc at) cells)),
     )
 
+-- the size of a list with one cell for another
+pub size_swap : (cells : List Entry) (at : ℕ) (old new : Entry) → slice_get cells at ≡ Some old → size (set cells at new) + length (entry_spelling old) ≡ size cells + length (entry_spelling new)
+size_swap [] at old new h = absurd cc
+size_swap (c ∷ cells) zero old new h =
+    let same : c ≡ old = cc in
+    let len : length (entry_spelling c) ≡ length (entry_spelling old) = ap (λ (e : Entry). length (entry_spelling e)) same in
+    omega (arith, length-append (entry_spelling c) (flat_map entry_spelling cells), length-append (entry_spelling new) (flat_map entry_spelling cells))
+size_swap (c ∷ cells) (suc at) old new h =
+    omega (arith, size_swap cells at old new h, length-append (entry_spelling c) (flat_map entry_spelling cells), length-append (entry_spelling c) (flat_map entry_spelling (set cells at new)))
+
+-- another death takes as many bytes
+ended_size : (death : ℕ) (e : Entry) → length (entry_spelling (ended death e)) ≡ length (entry_spelling e)
+ended_size death e = of_body e.key e.birth e.body
+  where
+    of_body : (key : List ℕ) (birth : ℕ) (body : Body) → length (entry_spelling (ended death (record { key = key; birth = birth; body = body }))) ≡ length (entry_spelling (record { key = key; birth = birth; body = body }))
+    of_body key birth (Carries old value) = omega (arith, leaf_size key birth death value, leaf_size key birth old value)
+    of_body key birth (Leads child) = refl
+
+ended_fits : (death : ℕ) → death < 2 ^ 64 → (e : Entry) → Fits true e → Fits true (ended death e)
+ended_fits death lt e h = record { key = h.key; birth = h.birth; body = of_body e.body h.body }
+  where
+    of_body : (body : Body) → FitsBody true body → FitsBody true (ended_body death body)
+    of_body (Carries old value) b = (lt, b.1)
+    of_body (Leads child) b = absurd b
+
 -- ---- a leaf
 
 pub leaf_rules : (content : Content) → content.level ≡ 0 → IsPage content → AreCells true None content.cells × (size content.cells ≤ 8188)
@@ -131,6 +157,49 @@ replaced_leaf q content xs ys zs x at past leaf rules all h k isnt is fits put s
       subst (λ (es : List Entry). IsNearly 0 es) (sym left) (near (set content.cells at (quad_cell q)) (set_cells None content.cells at (quad_cell q) page.0 found.0 fits found.1)
           (omega (arith, page.1, size_set content.cells at (quad_cell q), short_body true q.key q.birth (quad_cell q).body fits.key fits.body))),
     )
+
+fits_there : (before : Option Bound) (cells : List Entry) (at : ℕ) (e : Entry) → AreCells true before cells → slice_get cells at ≡ Some e → Fits true e
+fits_there before [] at e h there = absurd cc
+fits_there before (c ∷ cells) zero e h there =
+    let same : c ≡ e = cc in subst (λ (x : Entry). Fits true x) same h.0
+fits_there before (c ∷ cells) (suc at) e h there = fits_there (Some (bound_of c)) cells at e h.1.1 there
+
+one_there : (cells : List Entry) (at : ℕ) (x y : Entry) → slice_get cells at ≡ Some x → slice_get cells at ≡ Some y → x ≡ y
+one_there cells at x y h k = cc
+
+pub ended_leaf : (pair : Bound) (death : ℕ) (content : Content) (xs zs : List Cell) (x : Cell) (at past : ℕ) → content.level ≡ 0 → IsPage content → map entry_of xs ≡ content.cells
+    → BeginsAt AtOrAfter pair content.cells at → BeginsAt After pair content.cells past → at ≢ past → death < 2 ^ 64
+    → ((e : Entry) → slice_get content.cells at ≡ Some e → entry_of x ≡ ended death e) → zs ≡ set xs at x
+    → EndsCell pair death content.cells (map entry_of zs) × IsNearly 0 (map entry_of zs)
+ended_leaf pair death content xs zs x at past leaf rules all h k isnt lt is put =
+    let found = found_at pair content.cells at past h k isnt in
+    let page = leaf_rules content leaf rules in
+    let e = at_place content.cells at found.0 in
+    let new = ended death e.0 in
+    let left : map entry_of zs ≡ set content.cells at new =
+    ap (λ (cs : List Cell). map entry_of cs) put ∙ (map-set entry_of xs at x ∙ (ap (λ (y : Entry). set (map entry_of xs) at y) (is e.0 e.1) ∙ ap (λ (es : List Entry). set es at new) all)) in
+    let small : size (set content.cells at new) ≤ 8188 = omega (arith, page.1, size_swap content.cells at e.0 new e.1, ended_size death e.0) in
+    let near_new = near (set content.cells at new)
+    (set_cells None content.cells at new page.0 found.0 (ended_fits death lt e.0 (fits_there None content.cells at e.0 page.0 e.1)) (λ y there. ap (λ (z : Entry). bound_of z) (one_there content.cells at y e.0 there e.1)))
+    (omega (arith, small)) in (
+      record {
+        at = at;
+        within = found.0;
+        place = found.1;
+        now = λ y there. left ∙ ap (λ (z : Entry). set content.cells at (ended death z)) (one_there content.cells at e.0 y e.1 there);
+        small = omega (arith, small, ap size left);
+      },
+      subst (λ (es : List Entry). IsNearly 0 es) (sym left) near_new,
+    )
+
+-- a cell that stands at a place of the code's list
+pub cell_read : (xs : List Cell) (es : List Entry) (at : ℕ) (d : Cell) (e : Entry) → map entry_of xs ≡ es → slice_get es at ≡ Some e → at < length xs → entry_of (get_or xs at d) ≡ e
+cell_read xs es at d e all there lt = read xs at (subst (λ (ys : List Entry). slice_get ys at ≡ Some e) (sym all) there) lt
+  where
+    read : (xs : List Cell) (at : ℕ) → slice_get (map entry_of xs) at ≡ Some e → at < length xs → entry_of (get_or xs at d) ≡ e
+    read [] at h lt = absurd (omega arith)
+    read (x ∷ xs) zero h lt = cc
+    read (x ∷ xs) (suc at) h lt = read xs at h (omega arith)
 
 -- what lies before and behind a place where none stands at the pair
 low_so : (o : Ordering) → is_sought AtOrAfter o ≡ false → o ≡ Less

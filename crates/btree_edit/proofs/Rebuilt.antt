@@ -3,13 +3,14 @@ use Rattle.std.proofs.Common.{◌≡◌, ◌≢◌, ◌⊎◌, ⊎_elim, inl, in
 use Rattle.std.proofs.lemmas.List.{take-append-drop}
 use Rattle.pair_types.specs.declared.slot.Slot.{Slot}
 use Rattle.pair_types.specs.declared.quad.Quad.{Quad}
-use Rattle.pair_types.specs.PageMaps.{PageMap}
+use Rattle.pair_types.specs.PageMaps.{PageMap, ReadMap, Extends}
+use Rattle.pair_types.specs.PageState.{PageState}
 use Rattle.btree_page.specs.Content.{Bound, Entry, Content, Spells, inner_entry}
 use Rattle.btree_page.specs.Tree.{Holds, AllIn, Among, Child, child_cell, Kids, Subtree}
 use Rattle.btree_page.proofs.Trees.{among_left, among_right, among_either}
 use Rattle.btree_search.specs.Walk.{InStores}
-use Rattle.btree_edit.specs.Edited.{IsOpen, Frame}
-use Rattle.btree_edit.specs.Below.{Changed}
+use Rattle.btree_edit.specs.Edited.{Room, room_in, IsOpen, Frame}
+use Rattle.btree_edit.specs.Below.{Changed, Parted}
 use Rattle.btree_edit.proofs.Opened.{Seated, closed, bears_keep, some_not_none}
 use Rattle.btree_edit.proofs.Seats.{Seat, Beside}
 
@@ -18,12 +19,12 @@ abbrev pub IsLocal : (List Quad → List Quad → Type 0) → Type 0
 IsLocal Edit = (before here here' after : List Quad) → Edit here here' → Edit (before ++ (here ++ after)) (before ++ (here' ++ after))
 
 -- an open slot is absent
-pub open_absent : (store : Option ℕ) (p : PageMap) (s : Slot) → IsOpen store p s → p s ≡ None
+pub open_absent : (store : Option Room) (p : PageMap) (s : Slot) → IsOpen store p s → p s ≡ None
 open_absent None p s h = absurd h
 open_absent (Some n) p s h = h.0
 
 -- a slot of a page is open to no edit
-pub not_open : (store : Option ℕ) (p : PageMap) (s : Slot) → IsSome (p s) → IsOpen store p s → ⊥
+pub not_open : (store : Option Room) (p : PageMap) (s : Slot) → IsSome (p s) → IsOpen store p s → ⊥
 not_open store p s some h = some_not_none (p s) some (open_absent store p s h)
 
 pub some_held : (p : PageMap) (slot : Slot) (content : Content) → Holds p slot content → IsSome (p slot)
@@ -32,7 +33,7 @@ some_held p slot content h = rw h.held refl
 -- ---- the child closed again
 
 -- the page of the child is put in its slot, over the pages of the edit below it
-pub reclosed : (Edit : List Quad → List Quad → Type 0) (store : Option ℕ) (stores : ℕ) (p below q : PageMap) (level : ℕ) (slot : Slot) (low : Bound) (high : Option Bound)
+pub reclosed : (Edit : List Quad → List Quad → Type 0) (store : Option Room) (stores : ℕ) (p below q : PageMap) (level : ℕ) (slot : Slot) (low : Bound) (high : Option Bound)
     (quads : List Quad) (slots : List Slot) (h : Seated p level slot low high quads slots) (cells : List Entry) (page : List ℕ)
     (c : Changed Edit store stores p below level cells low high quads h.below)
     → q slot ≡ Some page → Spells (record { level = level; cells = cells }) page → ((s : Slot) → s ≢ slot → q s ≡ below s)
@@ -64,7 +65,7 @@ reclosed Edit store stores p below q level slot low high quads slots h cells pag
 -- ---- the parent
 
 -- children in place of one child
-pub reseated : (Edit : List Quad → List Quad → Type 0) → IsLocal Edit → (store : Option ℕ) (stores : ℕ) (p q : PageMap) (level : ℕ) (pair : Bound) (i : ℕ) (rest : List Child)
+pub reseated : (Edit : List Quad → List Quad → Type 0) → IsLocal Edit → (store : Option Room) (stores : ℕ) (p q : PageMap) (level : ℕ) (pair : Bound) (i : ℕ) (rest : List Child)
     (first : Slot) (low : Bound) (high : Option Bound) (quads : List Quad) (slots : List Slot) (s : Seat p level pair i rest first low high quads slots)
     (more : List Child) (here' : List Quad) (slots' : List Slot) → Edit s.here here' → InStores stores q
     → Kids (Subtree q level) s.child s.from more s.to here' slots' → Frame store p q s.slots_here slots'
@@ -105,7 +106,7 @@ reseated Edit local store stores p q level pair i rest first low high quads slot
     }
 
 -- the same children, of which one was edited in its slot
-pub rebuilt : (Edit : List Quad → List Quad → Type 0) → IsLocal Edit → (store : Option ℕ) (stores : ℕ) (p below q : PageMap) (level : ℕ) (pair : Bound) (i : ℕ) (rest : List Child)
+pub rebuilt : (Edit : List Quad → List Quad → Type 0) → IsLocal Edit → (store : Option Room) (stores : ℕ) (p below q : PageMap) (level : ℕ) (pair : Bound) (i : ℕ) (rest : List Child)
     (first : Slot) (low : Bound) (high : Option Bound) (quads : List Quad) (slots : List Slot) (s : Seat p level pair i rest first low high quads slots)
     (h : Seated p level s.child s.from s.to s.here s.slots_here) (cells : List Entry) (page : List ℕ)
     → Changed Edit store stores p below level cells s.from s.to s.here h.below
@@ -118,3 +119,56 @@ rebuilt Edit local store stores p below q level pair i rest first low high quads
     subst (λ (cs : List Child). Changed Edit store stores p q (suc level) (inner_entry [] 0 first ∷ map child_cell cs) low high quads slots) back
     (reseated Edit local store stores p q level pair i rest first low high quads slots s [] c.after (s.child ∷ c.reached) c.edit in_stores child.0 child.1
     (subst (λ (cs : List Child). AllIn low high (map (λ c. c.bound) cs)) (sym back) within))
+
+-- ---- a room of less that was read
+
+pub unread_before : (old new : ReadMap) (s : Slot) → Extends old new → new s ≡ None → old s ≡ None
+unread_before old new s h none = by_case (old s) refl
+  where
+    differ : (o : Option (Option (List ℕ))) (x : Option (List ℕ)) → o ≡ Some x → o ≡ None → ⊥
+    differ o x p q = cc
+
+    by_case : (o : Option (Option (List ℕ))) → old s ≡ o → old s ≡ None
+    by_case None is = is
+    by_case (Some x) is = absurd (differ (new s) x (h.at s x is) none)
+
+open_before : (store : Option ℕ) (a b : PageState) (p : PageMap) (s : Slot) → Extends a.reads b.reads → IsOpen (room_in store b) p s → IsOpen (room_in store a) p s
+open_before None a b p s h free = free
+open_before (Some n) a b p s h free = (free.0, (free.1.0, unread_before a.reads b.reads s h free.1.1))
+
+frame_before : (store : Option ℕ) (a b : PageState) (p q : PageMap) (before after : List Slot) → Extends a.reads b.reads
+    → Frame (room_in store b) p q before after → Frame (room_in store a) p q before after
+frame_before store a b p q before after h frame = record {
+  within = λ s there. ⊎_elim (λ old. inl old) (λ free. inr (open_before store a b p s h free)) (frame.within s there);
+  others = frame.others;
+}
+
+pub changed_before : (Edit : List Quad → List Quad → Type 0) (store : Option ℕ) (a b : PageState) (stores : ℕ) (p q : PageMap) (level : ℕ) (cells : List Entry)
+    (low : Bound) (high : Option Bound) (quads : List Quad) (below : List Slot) → Extends a.reads b.reads
+    → Changed Edit (room_in store b) stores p q level cells low high quads below → Changed Edit (room_in store a) stores p q level cells low high quads below
+changed_before Edit store a b stores p q level cells low high quads below h c = record {
+  after = c.after;
+  reached = c.reached;
+  edit = c.edit;
+  in_stores = c.in_stores;
+  bears = c.bears;
+  frame = frame_before store a b p q below c.reached h c.frame;
+}
+
+pub parted_before : (Edit : List Quad → List Quad → Type 0) (store : Option ℕ) (a b : PageState) (stores : ℕ) (p q : PageMap) (level : ℕ) (front : List Entry) (bound : Bound) (back : List Entry)
+    (low : Bound) (high : Option Bound) (quads : List Quad) (below : List Slot) → Extends a.reads b.reads
+    → Parted Edit (room_in store b) stores p q level front bound back low high quads below → Parted Edit (room_in store a) stores p q level front bound back low high quads below
+parted_before Edit store a b stores p q level front bound back low high quads below h c = record {
+  after_left = c.after_left;
+  after_right = c.after_right;
+  reached_left = c.reached_left;
+  reached_right = c.reached_right;
+  edit = c.edit;
+  in_stores = c.in_stores;
+  above = c.above;
+  inside = c.inside;
+  left = c.left;
+  right = c.right;
+  apart = c.apart;
+  frame = frame_before store a b p q below (c.reached_left ++ c.reached_right) h c.frame;
+}

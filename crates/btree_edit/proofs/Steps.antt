@@ -25,19 +25,19 @@ use Rattle.btree_search.proofs.Order.{cells_rise}
 use Rattle.btree_search.proofs.Parts.{not_both}
 use Rattle.btree_search.proofs.Walks.{odd_cause, cause_later, agrees_before}
 use Rattle.btree_edit.specs.declared.change.Change.{Change}
-use Rattle.btree_edit.specs.declared.change.Change.TheVariants.{Remove, Replace, Insert}
+use Rattle.btree_edit.specs.declared.change.Change.TheVariants.{Remove, End, Replace, Insert}
 use Rattle.btree_edit.specs.declared.outcome.Edited.{Edited}
 use Rattle.btree_edit.specs.declared.outcome.Edited.TheVariants.{Missing, Below, Page, Two}
-use Rattle.btree_edit.specs.Edits.{bound_at, Nothing, Lacks, Removes, Replaces, Inserts}
-use Rattle.btree_edit.specs.Edited.{GoesOn}
+use Rattle.btree_edit.specs.Edits.{bound_at, Nothing, Lacks, Removes, Ends, Replaces, Inserts}
+use Rattle.btree_edit.specs.Edited.{Room, room_in, GoesOn}
 use Rattle.btree_edit.specs.Made.{size, IsNearly, IsSplit}
-use Rattle.btree_edit.specs.Changes.{pair_of, edit_of, given_of, open_of, Answers, cells_edit, misses_of, refusal_of, EditsLeaf}
+use Rattle.btree_edit.specs.Changes.{ended, pair_of, edit_of, given_of, open_of, Answers, cells_edit, misses_of, refusal_of, EditsLeaf}
 use Rattle.btree_edit.specs.Below.{Bears, BearsRecords, IsMet, Changed, ChangesTo, LacksBelow, IsNotMet, StaysFrom, Grows, IsEdited, EditsBelow}
 use Rattle.btree_edit.proofs.Lists.{at_place, map_remove, there}
 use Rattle.btree_edit.proofs.Opened.{slot_cases}
-use Rattle.btree_edit.proofs.Placed.{leaf_rules}
+use Rattle.btree_edit.proofs.Placed.{leaf_rules, size_swap}
 use Rattle.btree_edit.proofs.Divided.{divided}
-use Rattle.btree_edit.proofs.Rebuilt.{IsLocal, not_open, rebuilt}
+use Rattle.btree_edit.proofs.Rebuilt.{IsLocal, not_open, rebuilt, changed_before}
 use Rattle.btree_edit.proofs.States.{goes_same, goes_only, goes_then, goes_write, goes_gives_up, over_put, in_stores_put, reads_latest, shown_within, sought, child_read, MetChild, IsPartial, met_child}
 
 -- ---- a leaf
@@ -89,7 +89,7 @@ records_of : (Given : List Quad → Type 0) (pair : Bound) (a : PageState) (cont
 records_of Given pair a content under low high quads below leaf met = subst (λ (n : ℕ). Bears (over a.writes under) n content.cells low high quads below) leaf met.bears
 
 -- the leaf with other records
-leaf_made : (Edit : List Quad → List Quad → Type 0) (Given : List Quad → Type 0) (store : Option ℕ) (pair : Bound) (a : PageState) (content : Content) (cells : List Entry) (under : PageMap) (low : Bound) (high : Option Bound) (quads after : List Quad) (below : List Slot)
+leaf_made : (Edit : List Quad → List Quad → Type 0) (Given : List Quad → Type 0) (store : Option Room) (pair : Bound) (a : PageState) (content : Content) (cells : List Entry) (under : PageMap) (low : Bound) (high : Option Bound) (quads after : List Quad) (below : List Slot)
     → content.level ≡ 0 → IsMet Given pair a a content under low high quads below → Edit quads after → cells ≡ map quad_cell after → AllIn low high (map quad_bound after)
     → Changed Edit store a.stores (over a.writes under) (over a.writes under) content.level cells low high quads below
 leaf_made Edit Given store pair a content cells under low high quads after below leaf met edit records within =
@@ -120,17 +120,29 @@ leaf_changes (Remove key birth) store a content cells leaf h = λ under low high
     (record { below = take h.at quads; gone = x.0; above = drop (suc h.at) quads; was = x.2; place = x.3; now = refl })
     (h.now ∙ (ap (λ (es : List Entry). remove es h.at) r.records ∙ sym (map_remove quad_cell quads h.at)))
     (all_removed low high quads h.at r.within)
+leaf_changes (End key birth death) store a content cells leaf h = λ under low high quads below met.
+    let pair = bound_at key.now birth in
+    let r = records_of Nothing pair a content under low high quads below leaf met in
+    let x = place_of content quads low high below pair h.at r h.within h.place in
+    let lt : h.at < length quads = omega (arith, h.within, ap (λ (es : List Entry). length es) r.records, length_quads quads) in
+    let gone : Quad = x.0 in
+    let new : Quad = record gone { death = death } in
+    let at_gone : slice_get content.cells h.at ≡ Some (quad_cell gone) = subst (λ (es : List Entry). slice_get es h.at ≡ Some (quad_cell gone)) (sym r.records) (mapped_there quads h.at gone x.1) in
+    leaf_made (Ends pair death) Nothing None pair a content cells under low high quads (set quads h.at new) below leaf met
+    (record { below = take h.at quads; gone = gone; above = drop (suc h.at) quads; was = x.2; place = x.3; now = set_split quads h.at new lt })
+    (h.now (quad_cell gone) at_gone ∙ (ap (λ (es : List Entry). set es h.at (quad_cell new)) r.records ∙ sym (map-set quad_cell quads h.at new)))
+    (all_set low high quads h.at new r.within (subst (λ (b : Bound). IsIn low high b) (sym x.3) met.falls))
 leaf_changes (Replace q) store a content cells leaf h = λ under low high quads below met.
     let r = records_of Nothing (quad_bound q.now) a content under low high quads below leaf met in
     let x = place_of content quads low high below (quad_bound q.now) h.at r h.within h.place in
     let lt : h.at < length quads = omega (arith, h.within, ap (λ (es : List Entry). length es) r.records, length_quads quads) in
-    leaf_made (Replaces q.now) Nothing (Some store) (quad_bound q.now) a content cells under low high quads (set quads h.at q.now) below leaf met
+    leaf_made (Replaces q.now) Nothing (room_in (Some store) a) (quad_bound q.now) a content cells under low high quads (set quads h.at q.now) below leaf met
     (record { below = take h.at quads; gone = x.0; above = drop (suc h.at) quads; was = x.2; place = x.3; now = set_split quads h.at q.now lt })
     (h.now ∙ (ap (λ (es : List Entry). set es h.at (quad_cell q.now)) r.records ∙ sym (map-set quad_cell quads h.at q.now)))
     (all_set low high quads h.at q.now r.within met.falls)
 leaf_changes (Insert q) store a content cells leaf h = λ under low high quads below met.
     let r = records_of (Lacks (quad_bound q.now)) (quad_bound q.now) a content under low high quads below leaf met in
-    leaf_made (Inserts q.now) (Lacks (quad_bound q.now)) (Some store) (quad_bound q.now) a content cells under low high quads (insert quads h.at q.now) below leaf met
+    leaf_made (Inserts q.now) (Lacks (quad_bound q.now)) (room_in (Some store) a) (quad_bound q.now) a content cells under low high quads (insert quads h.at q.now) below leaf met
     (record { below = take h.at quads; above = drop h.at quads; was = sym (take-append-drop h.at quads); now = refl })
     (h.now ∙ (ap (λ (es : List Entry). insert es h.at (quad_cell q.now)) r.records ∙ sym (mapped_insert quads h.at q.now)))
     (all_inserted low high quads h.at q.now r.within met.falls)
@@ -139,21 +151,14 @@ leaf_changes (Insert q) store a content cells leaf h = λ under low high quads b
 leaf_few : (change : Change) (a : PageState) (content : Content) (cells : List Entry) → cells_edit change content.cells cells
     → (length cells ≤ length content.cells) ⊎ (Grows change a a content × (length cells ≤ length content.cells + 1))
 leaf_few (Remove key birth) a content cells h = inl (omega (arith, ap (λ (es : List Entry). length es) h.now, length-remove content.cells h.at h.within))
+leaf_few (End key birth death) a content cells h =
+    let x = at_place content.cells h.at h.within in
+    inl (omega (arith, ap (λ (es : List Entry). length es) (h.now x.0 x.1), length-set content.cells h.at (ended death x.0)))
 leaf_few (Replace q) a content cells h = inl (omega (arith, ap (λ (es : List Entry). length es) h.now, length-set content.cells h.at (quad_cell q.now)))
 leaf_few (Insert q) a content cells h = inr (tt, omega (arith, ap (λ (es : List Entry). length es) h.now, length-insert content.cells h.at (quad_cell q.now) h.within))
 
 few_more : (change : Change) (a : PageState) (content : Content) (cells : List Entry) → cells_edit change content.cells cells → length cells ≤ length content.cells + 1
 few_more change a content cells h = ⊎_elim (λ le. omega arith) (λ more. more.1) (leaf_few change a content cells h)
-
--- the size of a list with one cell for another
-size_swap : (cells : List Entry) (at : ℕ) (old new : Entry) → slice_get cells at ≡ Some old → size (set cells at new) + length (entry_spelling old) ≡ size cells + length (entry_spelling new)
-size_swap [] at old new h = absurd cc
-size_swap (c ∷ cells) zero old new h =
-    let same : c ≡ old = cc in
-    let len : length (entry_spelling c) ≡ length (entry_spelling old) = ap (λ (e : Entry). length (entry_spelling e)) same in
-    omega (arith, length-append (entry_spelling c) (flat_map entry_spelling cells), length-append (entry_spelling new) (flat_map entry_spelling cells))
-size_swap (c ∷ cells) (suc at) old new h =
-    omega (arith, size_swap cells at old new h, length-append (entry_spelling c) (flat_map entry_spelling cells), length-append (entry_spelling c) (flat_map entry_spelling (set cells at new)))
 
 -- no other record stands at the place of one
 only_there : (quads : List Quad) (at : ℕ) (g : Quad) (pair : Bound) (k : ℕ) (d : Quad) → AreCells true None (map quad_cell quads) → slice_get quads at ≡ Some g → quad_bound g ≡ pair
@@ -180,6 +185,7 @@ memory_cause a P fault is = subst (λ (f : PairFault). HasCause a a P f) (sym is
 -- where a leaf has no room for its cells, a record came in or a longer one
 leaf_grows : (change : Change) (a : PageState) (content : Content) (cells : List Entry) → content.level ≡ 0 → cells_edit change content.cells cells → 8188 < size cells → Grows change a a content
 leaf_grows (Remove key birth) a content cells leaf h full = absurd (omega (arith, h.small))
+leaf_grows (End key birth death) a content cells leaf h full = absurd (omega (arith, h.small))
 leaf_grows (Insert q) a content cells leaf h full = tt
 leaf_grows (Replace q) a content cells leaf h full = λ under low high quads below met.
     let r = records_of Nothing (quad_bound q.now) a content under low high quads below leaf met in
@@ -200,6 +206,7 @@ leaf_lacks Given pair a content leaf h = λ under low high quads below met.
 
 leaf_missing : (change : Change) (store : ℕ) (a : PageState) (content : Content) → content.level ≡ 0 → misses_of change content.cells → IsEdited change store a a content (Ok Missing)
 leaf_missing (Remove key birth) store a content leaf h = (tt, refl, leaf_lacks Nothing (bound_at key.now birth) a content leaf h)
+leaf_missing (End key birth death) store a content leaf h = (tt, refl, leaf_lacks Nothing (bound_at key.now birth) a content leaf h)
 leaf_missing (Replace q) store a content leaf h = (tt, refl, leaf_lacks Nothing (quad_bound q.now) a content leaf h)
 leaf_missing (Insert q) store a content leaf h = absurd h
 
@@ -230,6 +237,7 @@ leaf_ok change store a content (Two left key birth right) leaf h = (
 leaf_fault : (change : Change) (store : ℕ) (a : PageState) (content : Content) (fault : PairFault) → content.level ≡ 0 → refusal_of change content.cells fault
     → HasCause a a (IsNotMet (given_of change) (pair_of change) a a content) fault
 leaf_fault (Remove key birth) store a content fault leaf h = memory_cause a (IsNotMet Nothing (bound_at key.now birth) a a content) fault h
+leaf_fault (End key birth death) store a content fault leaf h = memory_cause a (IsNotMet Nothing (bound_at key.now birth) a a content) fault h
 leaf_fault (Replace q) store a content fault leaf h = memory_cause a (IsNotMet Nothing (quad_bound q.now) a a content) fault h
 leaf_fault (Insert q) store a content Odd leaf h = λ under low high quads below met.
     let r = records_of (Lacks (quad_bound q.now)) (quad_bound q.now) a content under low high quads below leaf met in
@@ -278,7 +286,7 @@ stays_up level up a b c le same h = λ s content spelled high.
     h s content (subst (λ (w : PageMap). Spells content (latest w c.reads s)) (sym same) spelled) (omega arith) ∙ ap (λ (w : PageMap). w s) same
 
 -- where the child was edited, and its page then lies in its slot
-parent_changed : (Edit : List Quad → List Quad → Type 0) → IsLocal Edit → (Given : List Quad → Type 0) (store : Option ℕ) (pair : Bound) (a b z : PageState) (content below : Content)
+parent_changed : (Edit : List Quad → List Quad → Type 0) → IsLocal Edit → (Given : List Quad → Type 0) (store : Option Room) (pair : Bound) (a b z : PageState) (content below : Content)
     (under : PageMap) (low : Bound) (high : Option Bound) (quads : List Quad) (slots : List Slot) (level i : ℕ) (slot : Slot) (page : List ℕ)
     (m : MetChild Given pair a b z content below under low high quads slots level i slot page) → content.level ≡ suc level → b.writes ≡ a.writes
     → (stores : ℕ) (mid q : PageMap) (cells : List Entry) (page' : List ℕ)
@@ -322,6 +330,18 @@ removes_local pair before here here' after h = record {
       ∙ (ap (λ (qs : List Quad). before ++ qs) (append_assoc h.below h.above after) ∙ sym (append_assoc before h.below (h.above ++ after)));
 }
 
+ends_local : (pair : Bound) (death : ℕ) → IsLocal (Ends pair death)
+ends_local pair death before here here' after h = record {
+  below = before ++ h.below;
+  gone = h.gone;
+  above = h.above ++ after;
+  was = ap (λ (qs : List Quad). before ++ (qs ++ after)) h.was
+      ∙ (ap (λ (qs : List Quad). before ++ qs) (append_assoc h.below (h.gone ∷ h.above) after) ∙ sym (append_assoc before h.below (h.gone ∷ (h.above ++ after))));
+  place = h.place;
+  now = ap (λ (qs : List Quad). before ++ (qs ++ after)) h.now
+      ∙ (ap (λ (qs : List Quad). before ++ qs) (append_assoc h.below ((record h.gone { death = death }) ∷ h.above) after) ∙ sym (append_assoc before h.below ((record h.gone { death = death }) ∷ (h.above ++ after))));
+}
+
 replaces_local : (q : Quad) → IsLocal (Replaces q)
 replaces_local q before here here' after h = record {
   below = before ++ h.below;
@@ -346,6 +366,7 @@ inserts_local q before here here' after h = record {
 
 pub local_of : (change : Change) → IsLocal (edit_of change)
 local_of (Remove key birth) = removes_local (bound_at key.now birth)
+local_of (End key birth death) = ends_local (bound_at key.now birth) death
 local_of (Replace q) = replaces_local q.now
 local_of (Insert q) = inserts_local q.now
 
@@ -363,6 +384,7 @@ lacks_partial pair before here after h =
 
 pub partial_of : (change : Change) → IsPartial (given_of change)
 partial_of (Remove key birth) before here after h = tt
+partial_of (End key birth death) before here after h = tt
 partial_of (Replace q) before here after h = tt
 partial_of (Insert q) before here after h = lacks_partial (quad_bound q.now) before here after h
 
@@ -397,11 +419,12 @@ changed_below change store a b c content below past i slot page inner begins at 
     λ under low high quads slots met.
         let m = met_child (given_of change) (partial_of change) (pair_of change) a b c content below under low high quads slots (content.level - 1) past i slot page met (level_above _ inner) begins at leads reads h.goes_on shown in
         let s = m.sought in
-        let changed = h.answer.1 under s.seat.from s.seat.to s.seat.here s.inner.below m.met in
+        let changed = changed_before (edit_of change) (open_of change store) a b c.stores (over b.writes under) (over c.writes under) below.level below.cells s.seat.from s.seat.to s.seat.here s.inner.below only.extends
+        (h.answer.1 under s.seat.from s.seat.to s.seat.here s.inner.below m.met) in
         let before : over b.writes under s.seat.child ≡ Some page = subst (λ (w : PageMap). over w under s.seat.child ≡ Some page) (sym reads.writes) m.is_page in
         let some : IsSome (over b.writes under s.seat.child) = rw before refl in
-        let away : Among s.seat.child changed.reached → ⊥ = λ there. ⊎_elim (λ old. s.inner.apart old) (λ free. not_open (open_of change store) (over b.writes under) s.seat.child some free) (changed.frame.within s.seat.child there) in
-        parent_changed (edit_of change) (local_of change) (given_of change) (open_of change store) (pair_of change) a b c content below under low high quads slots (content.level - 1) i slot page m (level_above _ inner) reads.writes
+        let away : Among s.seat.child changed.reached → ⊥ = λ there. ⊎_elim (λ old. s.inner.apart old) (λ free. not_open (room_in (open_of change store) a) (over b.writes under) s.seat.child some free) (changed.frame.within s.seat.child there) in
+        parent_changed (edit_of change) (local_of change) (given_of change) (room_in (open_of change store) a) (pair_of change) a b c content below under low high quads slots (content.level - 1) i slot page m (level_above _ inner) reads.writes
         c.stores (over c.writes under) (over c.writes under) below.cells page changed (changed.frame.others s.seat.child s.inner.apart away ∙ before) shown.spelled (λ t apart. refl) changed.in_stores,
   );
 }
@@ -431,15 +454,16 @@ written_below change store a b c d content below past i slot page page' inner be
             let m = met_child (given_of change) (partial_of change) (pair_of change) a b d content below under low high quads slots (content.level - 1) past i slot page met (level_above _ inner) begins at leads reads later shown in
             let s = m.sought in
             let met_before : IsMet (given_of change) (pair_of change) b c below under s.seat.from s.seat.to s.seat.here s.inner.below = met_earlier (given_of change) (pair_of change) b c d below under s.seat.from s.seat.to s.seat.here s.inner.below (goes_write c d slot page' writes) m.met in
-            let changed = h.answer.1.changes under s.seat.from s.seat.to s.seat.here s.inner.below met_before in
+            let changed = changed_before (edit_of change) (open_of change store) a b c.stores (over b.writes under) (over c.writes under) below.level h.answer.1.cells s.seat.from s.seat.to s.seat.here s.inner.below only.extends
+            (h.answer.1.changes under s.seat.from s.seat.to s.seat.here s.inner.below met_before) in
             let put = over_put c.writes d.writes under slot page' writes.puts in
             let others : (t : Slot) → t ≢ s.seat.child → over d.writes under t ≡ over c.writes under t = λ t apart. put.others t (λ is. apart (is ∙ sym m.is_child)) in
             let stored : InStores c.stores (over d.writes under) =
             in_stores_put c.stores (over c.writes under) (over d.writes under) slot page' changed.in_stores (omega (arith, within, h.goes_on.lasts.stores, only.lasts.stores)) put.others in
-            let result : Changed (edit_of change) (open_of change store) c.stores (over a.writes under) (over d.writes under) content.level content.cells low high quads slots =
-            parent_changed (edit_of change) (local_of change) (given_of change) (open_of change store) (pair_of change) a b d content below under low high quads slots (content.level - 1) i slot page m (level_above _ inner) reads.writes
+            let result : Changed (edit_of change) (room_in (open_of change store) a) c.stores (over a.writes under) (over d.writes under) content.level content.cells low high quads slots =
+            parent_changed (edit_of change) (local_of change) (given_of change) (room_in (open_of change store) a) (pair_of change) a b d content below under low high quads slots (content.level - 1) i slot page m (level_above _ inner) reads.writes
             c.stores (over c.writes under) (over d.writes under) h.answer.1.cells page' changed (ap (λ (t : Slot). over d.writes under t) m.is_child ∙ put.put) h.answer.1.spelled others stored in
-            subst (λ (n : ℕ). Changed (edit_of change) (open_of change store) n (over a.writes under) (over d.writes under) content.level content.cells low high quads slots) (sym writes.lasts.stores) result,
+            subst (λ (n : ℕ). Changed (edit_of change) (room_in (open_of change store) a) n (over a.writes under) (over d.writes under) content.level content.cells low high quads slots) (sym writes.lasts.stores) result,
       );
     }
 

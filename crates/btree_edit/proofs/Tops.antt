@@ -15,17 +15,17 @@ use Rattle.btree_search.specs.Found.{OnlyReads, HasCause}
 use Rattle.btree_search.specs.Walk.{InStores, IsShown}
 use Rattle.btree_search.proofs.Walks.{odd_cause, cause_later, agrees_before, page_there, some_of}
 use Rattle.btree_edit.specs.declared.change.Change.{Change}
-use Rattle.btree_edit.specs.declared.change.Change.TheVariants.{Remove, Replace, Insert}
+use Rattle.btree_edit.specs.declared.change.Change.TheVariants.{Remove, End, Replace, Insert}
 use Rattle.btree_edit.specs.declared.outcome.Edited.TheVariants.{Missing, Below, Page, Two}
 use Rattle.btree_edit.specs.Edits.{bound_at, Nothing, Replaces, IsLonger, IsNoLonger}
-use Rattle.btree_edit.specs.Edited.{IsOpen, EditsTree, EditsIn, HadNoTree, GoesOn, RootStays, RootGrows, IsFull, HasPutCause}
+use Rattle.btree_edit.specs.Edited.{Room, room_in, IsOpen, EditsTree, EditsIn, HadNoTree, GoesOn, RootStays, RootGrows, IsFull, HasPutCause}
 use Rattle.btree_edit.specs.Changes.{pair_of, edit_of, given_of, open_of}
 use Rattle.btree_edit.specs.Below.{Bears, IsMet, Changed, IsNotMet, Grows, Divides, Parted, EditsBelow, PutsTwo}
-use Rattle.btree_edit.specs.Roots.{Raises, FailsSo, TreeGrows, MissesIn, PutsIn}
+use Rattle.btree_edit.specs.Roots.{Raises, FailsSo, TreeGrows, NeverGrows, MissesIn, PutsIn}
 use Rattle.btree_edit.proofs.Least.{all_in}
 use Rattle.btree_edit.proofs.Opened.{Seated, opened, closed, bears_keep, some_not_none, slot_cases}
-use Rattle.btree_edit.proofs.Rebuilt.{not_open, some_held, reclosed}
-use Rattle.btree_edit.proofs.Grafts.{bears_present, unwritten_before}
+use Rattle.btree_edit.proofs.Rebuilt.{not_open, some_held, reclosed, unread_before, changed_before, parted_before}
+use Rattle.btree_edit.proofs.Grafts.{bears_present, unwritten_before, open_free}
 use Rattle.btree_edit.proofs.States.{extends_learns, goes_only, goes_then, goes_write, goes_gives_up, over_put, in_stores_put, reads_latest, shown_within}
 
 -- the edit meets the root
@@ -72,7 +72,7 @@ met_root Given pair a b z content under quads slots page reads shown goes agrees
         (subst (λ (w : PageMap). over w under root ≡ Some bytes) (sym reads.writes) held)
 
 -- where the root's page then lies in its slot, the tree is edited
-tree_edited : (Edit : List Quad → List Quad → Type 0) (Given : List Quad → Type 0) (store : Option ℕ) (pair : Bound) (a b z : PageState) (content : Content) (under : PageMap) (quads : List Quad) (slots : List Slot) (page : List ℕ)
+tree_edited : (Edit : List Quad → List Quad → Type 0) (Given : List Quad → Type 0) (store : Option Room) (pair : Bound) (a b z : PageState) (content : Content) (under : PageMap) (quads : List Quad) (slots : List Slot) (page : List ℕ)
     (m : MetRoot Given pair a b z content under quads slots page) → b.writes ≡ a.writes
     → (stores : ℕ) (mid q : PageMap) (cells : List Entry) (page' : List ℕ)
     → Changed Edit store stores (over b.writes under) mid content.level cells least None quads m.inner.below
@@ -124,11 +124,12 @@ pub tree_changed : (change : Change) (store : ℕ) (a b c : PageState) (content 
     → WasRead a b content page → EditsBelow change store b c content (Ok Below) → EditsIn (edit_of change) (given_of change) (open_of change store) a c
 tree_changed change store a b c content page r h = λ under agrees quads slots formed given.
     let m = met_root (given_of change) (pair_of change) a b c content under quads slots page r.reads r.shown h.goes_on agrees formed given in
-    let changed = h.answer.1 under least None quads m.inner.below m.met in
+    let changed = changed_before (edit_of change) (open_of change store) a b c.stores (over b.writes under) (over c.writes under) content.level content.cells least None quads m.inner.below r.only.extends
+    (h.answer.1 under least None quads m.inner.below m.met) in
     let before : over b.writes under root ≡ Some page = subst (λ (w : PageMap). over w under root ≡ Some page) (sym r.reads.writes) m.is_page in
     let some : IsSome (over b.writes under root) = some_of (over b.writes under root) page before in
-    let away : Among root changed.reached → ⊥ = λ there. ⊎_elim (λ old. m.inner.apart old) (λ free. not_open (open_of change store) (over b.writes under) root some free) (changed.frame.within root there) in
-    tree_edited (edit_of change) (given_of change) (open_of change store) (pair_of change) a b c content under quads slots page m r.reads.writes c.stores (over c.writes under) (over c.writes under) content.cells page changed
+    let away : Among root changed.reached → ⊥ = λ there. ⊎_elim (λ old. m.inner.apart old) (λ free. not_open (room_in (open_of change store) a) (over b.writes under) root some free) (changed.frame.within root there) in
+    tree_edited (edit_of change) (given_of change) (room_in (open_of change store) a) (pair_of change) a b c content under quads slots page m r.reads.writes c.stores (over c.writes under) (over c.writes under) content.cells page changed
     (changed.frame.others root m.inner.apart away ∙ before) r.shown.spelled (λ t apart. refl) changed.in_stores
 
 formed_before : (a c d : PageState) (under : PageMap) (quads : List Quad) (slots : List Slot) → GoesOn c d → IsFormed d.stores (over a.writes under) quads slots → IsFormed c.stores (over a.writes under) quads slots
@@ -140,17 +141,24 @@ tree_written change store a b c d content page page' r h writes = λ under agree
     let goes = goes_write c d root page' writes in
     let formed_c = formed_before a c d under quads slots goes formed in
     let m = met_root (given_of change) (pair_of change) a b c content under quads slots page r.reads r.shown h.goes_on (agrees_before c.reads d.reads under goes.extends agrees) formed_c given in
-    let changed = h.answer.1.changes under least None quads m.inner.below m.met in
+    let changed = changed_before (edit_of change) (open_of change store) a b c.stores (over b.writes under) (over c.writes under) content.level h.answer.1.cells least None quads m.inner.below r.only.extends
+    (h.answer.1.changes under least None quads m.inner.below m.met) in
     let put = over_put c.writes d.writes under root page' writes.puts in
     let within : 0 < c.stores = formed_c.in_range root (some_of (over a.writes under root) page m.is_page) in
     let stored : InStores c.stores (over d.writes under) = in_stores_put c.stores (over c.writes under) (over d.writes under) root page' changed.in_stores within put.others in
-    subst (λ (n : ℕ). EditsTree (edit_of change) (open_of change store) n (over a.writes under) (over d.writes under) quads slots) (sym writes.lasts.stores)
-    (tree_edited (edit_of change) (given_of change) (open_of change store) (pair_of change) a b c content under quads slots page m r.reads.writes c.stores (over c.writes under) (over d.writes under) h.answer.1.cells page' changed
+    subst (λ (n : ℕ). EditsTree (edit_of change) (room_in (open_of change store) a) n (over a.writes under) (over d.writes under) quads slots) (sym writes.lasts.stores)
+    (tree_edited (edit_of change) (given_of change) (room_in (open_of change store) a) (pair_of change) a b c content under quads slots page m r.reads.writes c.stores (over c.writes under) (over d.writes under) h.answer.1.cells page' changed
     put.put h.answer.1.spelled put.others stored)
 
 pub tree_misses : (change : Change) (store : ℕ) (a b c : PageState) (content : Content) (page : List ℕ)
     → WasRead a b content page → EditsBelow change store b c content (Ok Missing) → MissesIn change a c
 tree_misses (Remove key birth) store a b c content page r h = record {
+  writes = h.answer.1 ∙ r.reads.writes;
+  lacks = λ under agrees quads slots formed.
+      let m = met_root Nothing (bound_at key.now birth) a b c content under quads slots page r.reads r.shown h.goes_on agrees formed tt in
+      h.answer.2 under least None quads m.inner.below m.met;
+}
+tree_misses (End key birth death) store a b c content page r h = record {
   writes = h.answer.1 ∙ r.reads.writes;
   lacks = λ under agrees quads slots formed.
       let m = met_root Nothing (bound_at key.now birth) a b c content under quads slots page r.reads r.shown h.goes_on agrees formed tt in
@@ -166,6 +174,7 @@ tree_misses (Insert q) store a b c content page r h = absurd h.answer.0
 
 tree_grows : (change : Change) (store : ℕ) (a b c d : PageState) (content : Content) (page : List ℕ) → WasRead a b content page → GoesOn b c → GoesOn c d → Grows change b c content → TreeGrows change a d
 tree_grows (Remove key birth) store a b c d content page r h goes grows = grows
+tree_grows (End key birth death) store a b c d content page r h goes grows = grows
 tree_grows (Insert q) store a b c d content page r h goes grows = tt
 tree_grows (Replace q) store a b c d content page r h goes grows = λ under agrees quads slots formed.
     let m = met_root Nothing (quad_bound q.now) a b c content under quads slots page r.reads r.shown h (agrees_before c.reads d.reads under goes.extends agrees) (formed_before a c d under quads slots goes formed) tt in
@@ -174,48 +183,43 @@ tree_grows (Replace q) store a b c d content page r h goes grows = λ under agre
 -- ---- the root page
 
 -- the root page, as it read, is the one that was read
-root_was : (a b z : PageState) (page : List ℕ) (content before : Content) → WasRead a b content page → Extends b.reads z.reads
-    → Spells before (latest a.writes z.reads root) → before ≡ content
-root_was a b z page content before r later spelled =
+pub root_was : (a b z : PageState) (page : List ℕ) (content : Content) → WasRead a b content page → Extends b.reads z.reads → Spells content (latest a.writes z.reads root)
+root_was a b z page content r later =
     let within : 0 < a.stores = shown_within a b root page 0 64 content r.reads r.shown in
-    has_one_content page before content (subst (λ (xs : List ℕ). Spells before xs) (sym (reads_latest a b z root page r.reads later within)) spelled) r.shown.spelled
+    subst (λ (xs : List ℕ). Spells content xs) (reads_latest a b z root page r.reads later within) r.shown.spelled
 
-pub root_same : (a z : PageState) → z.writes root ≡ a.writes root → RootStays a z
-root_same a z same = λ before after spelled now.
-    let one : after ≡ before =
-    has_one_content (latest a.writes z.reads root) after before
-    (subst (λ (o : Option (List ℕ)). Spells after (page_of (laid o (unwrap_or (z.reads root) None)))) same now) spelled in
-    (ap (λ (c : Content). c.level) one, omega (arith, ap (λ (c : Content). length c.cells) one))
+pub root_same : (a z : PageState) (content : Content) → Spells content (latest a.writes z.reads root) → z.writes root ≡ a.writes root → RootStays a z
+root_same a z content was same = record {
+  before = content;
+  after = content;
+  was = was;
+  is = subst (λ (o : Option (List ℕ)). Spells content (page_of (laid o (unwrap_or (z.reads root) None)))) (sym same) was;
+  moves = (refl, omega arith);
+}
 
 pub root_changed : (change : Change) (store : ℕ) (a b c : PageState) (content : Content) (page : List ℕ)
     → WasRead a b content page → EditsBelow change store b c content (Ok Below) → RootStays a c
 root_changed change store a b c content page r h =
-    let within : 0 < a.stores = shown_within a b root page 0 64 content r.reads r.shown in
-    let there : Spells content (latest b.writes c.reads root) =
-    subst (λ (w : PageMap). Spells content (latest w c.reads root)) (sym r.reads.writes)
-    (subst (λ (xs : List ℕ). Spells content xs) (reads_latest a b c root page r.reads h.goes_on.extends within) r.shown.spelled) in
-    root_same a c (h.answer.0 root content there (omega arith) ∙ ap (λ (w : PageMap). w root) r.reads.writes)
+    let was = root_was a b c page content r h.goes_on.extends in
+    let there : Spells content (latest b.writes c.reads root) = subst (λ (w : PageMap). Spells content (latest w c.reads root)) (sym r.reads.writes) was in
+    root_same a c content was (h.answer.0 root content there (omega arith) ∙ ap (λ (w : PageMap). w root) r.reads.writes)
 
--- what the root page was and what was put there
-root_is : (a d : PageState) (after content : Content) (page' : List ℕ) → d.writes root ≡ Some page' → Spells content page' → Spells after (latest d.writes d.reads root) → after ≡ content
-root_is a d after content page' put spelled now =
-    has_one_content page' after content (subst (λ (o : Option (List ℕ)). Spells after (page_of (laid o (unwrap_or (d.reads root) None)))) put now) spelled
+-- what was put there is what the root page is
+root_is : (d : PageState) (content : Content) (page' : List ℕ) → d.writes root ≡ Some page' → Spells content page' → Spells content (latest d.writes d.reads root)
+root_is d content page' put spelled = subst (λ (o : Option (List ℕ)). Spells content (page_of (laid o (unwrap_or (d.reads root) None)))) (sym put) spelled
 
 pub root_written : (change : Change) (store : ℕ) (a b c d : PageState) (content : Content) (page page' : List ℕ)
     → WasRead a b content page → EditsBelow change store b c content (Ok (Page page')) → Writes c d root page' → RootStays a d ⊎ (TreeGrows change a d × RootGrows a d)
 root_written change store a b c d content page page' r h writes =
     let goes = goes_write c d root page' writes in
-    let later = goes_then b c d h.goes_on goes in ⊎_elim
-    (λ few. inl (λ before after spelled now.
-    let was = root_was a b d page content before r later.extends spelled in
-    let is = root_is a d after (record { level = content.level; cells = h.answer.1.cells }) page' writes.puts.put h.answer.1.spelled now in
-    (ap (λ (c : Content). c.level) is ∙ sym (ap (λ (c : Content). c.level) was), omega (arith, ap (λ (c : Content). length c.cells) is, ap (λ (c : Content). length c.cells) was, few))))
+    let later = goes_then b c d h.goes_on goes in
+    let after : Content = record { level = content.level; cells = h.answer.1.cells } in
+    let was = root_was a b d page content r later.extends in
+    let is = root_is d after page' writes.puts.put h.answer.1.spelled in ⊎_elim
+    (λ few. inl (record { before = content; after = after; was = was; is = is; moves = (refl, few) }))
     (λ more. inr (
       tree_grows change store a b c d content page r h.goes_on goes more.0,
-      λ before after spelled now.
-          let was = root_was a b d page content before r later.extends spelled in
-          let is = root_is a d after (record { level = content.level; cells = h.answer.1.cells }) page' writes.puts.put h.answer.1.spelled now in
-          inl (ap (λ (c : Content). c.level) is ∙ sym (ap (λ (c : Content). c.level) was), omega (arith, ap (λ (c : Content). length c.cells) is, ap (λ (c : Content). length c.cells) was, more.1)),
+      record { before = content; after = after; was = was; is = is; moves = inl (refl, more.1) },
     ))
     h.answer.1.few
 
@@ -235,10 +239,13 @@ pub root_raised : (change : Change) (store : ℕ) (a b c d : PageState) (content
 root_raised change store a b c d content page left bound right r goes parts raises =
     inr (
       tree_grows change store a b c d content page r goes raises.goes_on parts.grows,
-      λ before after spelled now.
-          let was = root_was a b d page content before r (goes_then b c d goes raises.goes_on).extends spelled in
-          let is = root_is a d after _ raises.page raises.root_put raises.spelled now in
-          inr (ap (λ (c : Content). c.level) is ∙ ap (λ (n : ℕ). n + 1) (sym (ap (λ (c : Content). c.level) was)), ap (λ (c : Content). length c.cells) is),
+      record {
+        before = content;
+        after = _;
+        was = root_was a b d page content r (goes_then b c d goes raises.goes_on).extends;
+        is = root_is d _ raises.page raises.root_put raises.spelled;
+        moves = inr (refl, refl);
+      },
     )
 
 -- ---- the tree is one level higher
@@ -260,11 +267,6 @@ fresh_not_root a b c page content s r goes unread is =
     by_case None e some = no some
     by_case (Some x) e some = differ (c.reads root) x (ap (λ (t : Slot). c.reads t) (sym is) ∙ unread) (goes.extends.at root x e)
 
-root_open : (change : Change) (store : ℕ) (p : PageMap) (s : Slot) (old new : PageState) (content : Content) → Grows change old new content → p s ≡ None → s.store ≡ store → IsOpen (open_of change store) p s
-root_open (Remove key birth) store p s old new content grows absent there = absurd grows
-root_open (Replace q) store p s old new content grows absent there = (absent, there)
-root_open (Insert q) store p s old new content grows absent there = (absent, there)
-
 pub tree_raised : (change : Change) (store : ℕ) (a b c d : PageState) (content : Content) (page left : List ℕ) (bound : Bound) (right : List ℕ)
     → WasRead a b content page → GoesOn b c → Divides change store b c content left bound right → Raises c d (content.level + 1) left bound right store → IsSound a → content.level < 64 → store < a.stores
     → EditsIn (edit_of change) (given_of change) (open_of change store) a d
@@ -274,9 +276,10 @@ tree_raised change store a b c d content page left bound right r goes parts rais
     let p = over a.writes under in
     let mid = over c.writes under in
     let q = over d.writes under in
-    let x : Parted (edit_of change) (open_of change store) c.stores p mid content.level parts.front bound parts.back least None quads m.inner.below =
-    subst (λ (v : PageMap). Parted (edit_of change) (open_of change store) c.stores (over v under) mid content.level parts.front bound parts.back least None quads m.inner.below) r.reads.writes
-    (parts.parts under least None quads m.inner.below m.met) in
+    let x : Parted (edit_of change) (room_in (open_of change store) a) c.stores p mid content.level parts.front bound parts.back least None quads m.inner.below =
+    parted_before (edit_of change) (open_of change store) a b c.stores p mid content.level parts.front bound parts.back least None quads m.inner.below r.only.extends
+    (subst (λ (v : PageMap). Parted (edit_of change) (room_in (open_of change store) b) c.stores (over v under) mid content.level parts.front bound parts.back least None quads m.inner.below) r.reads.writes
+    (parts.parts under least None quads m.inner.below m.met)) in
     let l = raises.first in
     let k = raises.second in
     let until = (goes_then a b c (goes_only a b r.only) goes).extends in
@@ -289,7 +292,7 @@ tree_raised change store a b c d content page left bound right r goes parts rais
     let present = some_held p root _ m.inner.page in
     let left_there : (s : Slot) → Among s x.reached_left → IsSome (mid s) = bears_present mid content.level parts.front least (Some bound) x.after_left x.reached_left x.left in
     let right_there : (s : Slot) → Among s x.reached_right → IsSome (mid s) = bears_present mid content.level parts.back bound None x.after_right x.reached_right x.right in
-    let root_out : Among root (x.reached_left ++ x.reached_right) → ⊥ = λ there. ⊎_elim (λ old. m.inner.apart old) (λ free. not_open (open_of change store) p root present free) (x.frame.within root there) in
+    let root_out : Among root (x.reached_left ++ x.reached_right) → ⊥ = λ there. ⊎_elim (λ old. m.inner.apart old) (λ free. not_open (room_in (open_of change store) a) p root present free) (x.frame.within root there) in
     let apart_from : (s t : Slot) → IsSome (mid s) → mid t ≡ None → s ≢ t = λ s t some none is. some_not_none (mid s) some (ap (λ (y : Slot). mid y) is ∙ none) in
     let kept : (s : Slot) → IsSome (mid s) → s ≢ root → q s ≡ mid s = λ s some not_root.
     ap (λ (o : Option (List ℕ)). laid o (under s)) (raises.others s not_root (apart_from s l some l_mid) (apart_from s k some k_mid)) in
@@ -344,7 +347,7 @@ tree_raised change store a b c d content page left bound right r goes parts rais
     (slot_cases s k))
     (slot_cases s l))
     (slot_cases s root) in
-    let from_mid : (s : Slot) → Among s (x.reached_left ++ x.reached_right) → Among s slots ⊎ IsOpen (open_of change store) p s = λ s there.
+    let from_mid : (s : Slot) → Among s (x.reached_left ++ x.reached_right) → Among s slots ⊎ IsOpen (room_in (open_of change store) a) p s = λ s there.
     ⊎_elim (λ old. inl (subst (λ (ss : List Slot). Among s ss) (sym m.inner.reached) (inr old))) (λ free. inr free) (x.frame.within s there) in
     let tree : Subtree q (suc content.level) root least None (x.after_left ++ x.after_right) (root ∷ below) = record {
       first = l;
@@ -372,8 +375,8 @@ tree_raised change store a b c d content page left bound right r goes parts rais
         within = λ s there. ⊎_elim
             (λ is. inl (subst (λ (ss : List Slot). Among s ss) (sym m.inner.reached) (inl is)))
             (λ more. ⊎_elim
-            (λ n. ⊎_elim (λ is. inr (subst (λ (y : Slot). IsOpen (open_of change store) p y) (sym is) (root_open change store p l b c content parts.grows l_none raises.first_store))) (λ near. from_mid s (among_left s x.reached_left x.reached_right near)) n)
-            (λ f. ⊎_elim (λ is. inr (subst (λ (y : Slot). IsOpen (open_of change store) p y) (sym is) (root_open change store p k b c content parts.grows k_none raises.second_store))) (λ far. from_mid s (among_right s x.reached_left x.reached_right far)) f)
+            (λ n. ⊎_elim (λ is. inr (subst (λ (y : Slot). IsOpen (room_in (open_of change store) a) p y) (sym is) (open_free change store a p l b c content parts.grows l_none raises.first_store (unread_before a.reads c.reads l until raises.first_unread)))) (λ near. from_mid s (among_left s x.reached_left x.reached_right near)) n)
+            (λ f. ⊎_elim (λ is. inr (subst (λ (y : Slot). IsOpen (room_in (open_of change store) a) p y) (sym is) (open_free change store a p k b c content parts.grows k_none raises.second_store (unread_before a.reads c.reads k until raises.second_unread)))) (λ far. from_mid s (among_right s x.reached_left x.reached_right far)) f)
             (among_either s (l ∷ x.reached_left) (k ∷ x.reached_right) more))
             there;
         others = λ s gone out.
@@ -444,15 +447,10 @@ fails_write a b c d first second left right store fault fresh two gives =
 -- ---- what the calls promise
 
 pub stays_grows : (a b : PageState) → RootStays a b → RootGrows a b
-stays_grows a b h = λ before after spelled now. let s = h before after spelled now in inl (s.0, omega (arith, s.1))
+stays_grows a b h = record { before = h.before; after = h.after; was = h.was; is = h.is; moves = inl (h.moves.0, omega (arith, h.moves.1)) }
 
 moved_grows : (a b : PageState) (P : Type 0) → RootStays a b ⊎ (P × RootGrows a b) → RootGrows a b
 moved_grows a b P h = ⊎_elim (λ s. stays_grows a b s) (λ g. g.1) h
-
-pub misses_stays : (change : Change) (a b : PageState) → MissesIn change a b → RootStays a b
-misses_stays (Remove key birth) a b h = root_same a b (ap (λ (w : PageMap). w root) h.writes)
-misses_stays (Replace q) a b h = root_same a b (ap (λ (w : PageMap). w root) h.writes)
-misses_stays (Insert q) a b h = absurd h
 
 pub put_edits : (change : Change) (store : ℕ) (a b : PageState) (result : Result Bool PairFault) → PutsIn change store a b result
     → IfOk result (λ found. found ≡ true → EditsIn (edit_of change) (given_of change) (open_of change store) a b)
@@ -462,12 +460,12 @@ put_edits change store a b (Err fault) h = tt
 
 pub put_misses : (change : Change) (store : ℕ) (a b : PageState) (result : Result Bool PairFault) → PutsIn change store a b result → IfOk result (λ found. found ≡ false → MissesIn change a b)
 put_misses change store a b (Ok true) h = λ is. absurd cc
-put_misses change store a b (Ok false) h = λ is. h.answer
+put_misses change store a b (Ok false) h = λ is. h.answer.0
 put_misses change store a b (Err fault) h = tt
 
 pub put_grows : (change : Change) (store : ℕ) (a b : PageState) (result : Result Bool PairFault) → PutsIn change store a b result → IfOk result (λ _. RootGrows a b)
 put_grows change store a b (Ok true) h = moved_grows a b (TreeGrows change a b) h.answer.1
-put_grows change store a b (Ok false) h = stays_grows a b (misses_stays change a b h.answer)
+put_grows change store a b (Ok false) h = stays_grows a b h.answer.1
 put_grows change store a b (Err fault) h = tt
 
 pub put_faults : (change : Change) (store : ℕ) (a b : PageState) (result : Result Bool PairFault) → PutsIn change store a b result → IfErr result (λ fault. HasPutCause a b (HadNoTree (given_of change) a b) fault)
@@ -478,7 +476,7 @@ put_faults change store a b (Err fault) h = h.answer
 pub put_any : (change : Change) (store : ℕ) (a b : PageState) (found : Bool) → PutsIn change store a b (Ok found)
     → (EditsIn (edit_of change) (given_of change) (open_of change store) a b × RootGrows a b) ⊎ MissesIn change a b
 put_any change store a b true h = inl (h.answer.0, moved_grows a b (TreeGrows change a b) h.answer.1)
-put_any change store a b false h = inr h.answer
+put_any change store a b false h = inr h.answer.0
 
 -- a value that is no longer is not longer
 not_both_long : (q : Quad) (quads after : List Quad) → Replaces q quads after → IsLonger q quads → IsNoLonger q quads → ⊥
@@ -506,7 +504,7 @@ put_stays q change store a b (Ok true) h edits grows = λ under agrees quads slo
     (λ s. s)
     (λ g. absurd (not_both_long q quads _ (edits h.answer.0 under agrees quads slots formed tt).edit (grows g.0 under agrees quads slots formed) no_longer))
     h.answer.1
-put_stays q change store a b (Ok false) h edits grows = λ under agrees quads slots formed no_longer. misses_stays change a b h.answer
+put_stays q change store a b (Ok false) h edits grows = λ under agrees quads slots formed no_longer. h.answer.1
 put_stays q change store a b (Err fault) h edits grows = tt
 
 -- a removal never divides a page
@@ -519,8 +517,22 @@ root_kept change a d none h = ⊎_elim (λ s. s) (λ g. absurd (none g.0)) h
 
 pub root_missing : (change : Change) (store : ℕ) (a b c : PageState) (content : Content) (page : List ℕ)
     → WasRead a b content page → EditsBelow change store b c content (Ok Missing) → RootStays a c
-root_missing change store a b c content page r h = root_same a c (ap (λ (w : PageMap). w root) (h.answer.1 ∙ r.reads.writes))
+root_missing change store a b c content page r h = root_same a c content (root_was a b c page content r h.goes_on.extends) (ap (λ (w : PageMap). w root) (h.answer.1 ∙ r.reads.writes))
 
 pub root_kept_written : (change : Change) (store : ℕ) (a b c d : PageState) (content : Content) (page page' : List ℕ) → (TreeGrows change a d → ⊥)
     → WasRead a b content page → EditsBelow change store b c content (Ok (Page page')) → Writes c d root page' → RootStays a d
 root_kept_written change store a b c d content page page' none r h writes = root_kept change a d none (root_written change store a b c d content page page' r h writes)
+
+-- ---- a change that lets nothing grow
+
+pub never_grows : (change : Change) → NeverGrows change → (a b : PageState) → TreeGrows change a b → ⊥
+never_grows (Remove key birth) never a b grows = grows
+never_grows (End key birth death) never a b grows = grows
+never_grows (Replace q) never a b grows = never
+never_grows (Insert q) never a b grows = never
+
+pub never_more : (change : Change) → NeverGrows change → (a b : PageState) (content : Content) → Grows change a b content → ⊥
+never_more (Remove key birth) never a b content grows = grows
+never_more (End key birth death) never a b content grows = grows
+never_more (Replace q) never a b content grows = never
+never_more (Insert q) never a b content grows = never

@@ -1,6 +1,7 @@
 -- What an edit makes of a page, and of what lies below it.
 use Rattle.std.specs.Prelude.{ℕ, zero, suc, ◌≡◌, ◌≢◌, ◌⊎◌, ◌+◌, ◌<◌, ◌≤◌, List, [], ◌∷◌, ◌++◌, length, map, Option, Some, None, Result, Ok, Err}
 use Rattle.std.specs.List.{insert}
+use Rattle.nfs3_types.specs.Count.{Rose}
 use Rattle.pair_types.specs.declared.slot.Slot.{Slot}
 use Rattle.pair_types.specs.declared.quad.Quad.{Quad}
 use Rattle.pair_types.specs.declared.fault.PageFault.{PageFault}
@@ -15,11 +16,11 @@ use Rattle.btree_search.specs.Find.{BeginsAt}
 use Rattle.btree_search.specs.Found.{HasCause}
 use Rattle.btree_search.specs.Walk.{InStores}
 use Rattle.btree_edit.specs.declared.change.Change.{Change}
-use Rattle.btree_edit.specs.declared.change.Change.TheVariants.{Remove, Replace, Insert}
+use Rattle.btree_edit.specs.declared.change.Change.TheVariants.{Remove, End, Replace, Insert}
 use Rattle.btree_edit.specs.declared.outcome.Edited.{Edited}
 use Rattle.btree_edit.specs.declared.outcome.Edited.TheVariants.{Missing, Below, Page, Two}
 use Rattle.btree_edit.specs.Edits.{bound_at, Nothing, Lacks, IsLonger}
-use Rattle.btree_edit.specs.Edited.{Frame, GoesOn}
+use Rattle.btree_edit.specs.Edited.{Room, room_in, Frame, GoesOn}
 use Rattle.btree_edit.specs.Changes.{pair_of, edit_of, given_of, open_of, AreMade}
 
 -- ---- what lies below a page
@@ -55,19 +56,19 @@ pub record IsMet (Given : List Quad → Type 0) (pair : Bound) (old new : PageSt
   pub given : Given quads
 
 -- with these cells, the page has edited records afterwards
-pub record Changed (Edit : List Quad → List Quad → Type 0) (store : Option ℕ) (stores : ℕ) (p q : PageMap) (level : ℕ) (cells : List Entry)
+pub record Changed (Edit : List Quad → List Quad → Type 0) (room : Option Room) (stores : ℕ) (p q : PageMap) (level : ℕ) (cells : List Entry)
     (low : Bound) (high : Option Bound) (quads : List Quad) (below : List Slot) : Type 0 where
   pub after : List Quad
   pub reached : List Slot
   pub edit : Edit quads after
   pub in_stores : InStores stores q
   pub bears : Bears q level cells low high after reached
-  pub frame : Frame store p q below reached
+  pub frame : Frame room p q below reached
 
 abbrev pub ChangesTo : (List Quad → List Quad → Type 0) → (List Quad → Type 0) → Option ℕ → Bound → PageState → PageState → Content → List Entry → Type 0
 ChangesTo Edit Given store pair old new content cells =
     (under : PageMap) (low : Bound) (high : Option Bound) (quads : List Quad) (below : List Slot) → IsMet Given pair old new content under low high quads below
-    → Changed Edit store new.stores (over old.writes under) (over new.writes under) content.level cells low high quads below
+    → Changed Edit (room_in store old) new.stores (over old.writes under) (over new.writes under) content.level cells low high quads below
 
 abbrev pub LacksBelow : (List Quad → Type 0) → Bound → PageState → PageState → Content → Type 0
 LacksBelow Given pair old new content =
@@ -85,6 +86,7 @@ StaysFrom level old new = (s : Slot) (c : Content) → Spells c (latest old.writ
 -- why a page may have more cells: a record came in, or a longer one
 abbrev pub Grows : Change → PageState → PageState → Content → Type 0
 Grows (Remove key birth) old new content = ⊥
+Grows (End key birth death) old new content = ⊥
 Grows (Replace q) old new content =
     (under : PageMap) (low : Bound) (high : Option Bound) (quads : List Quad) (below : List Slot)
     → IsMet Nothing (quad_bound q.now) old new content under low high quads below → IsLonger q.now quads
@@ -98,7 +100,7 @@ pub record Becomes (change : Change) (store : ℕ) (old new : PageState) (conten
   pub changes : ChangesTo (edit_of change) (given_of change) (open_of change store) (pair_of change) old new content cells
 
 -- with these cells, two pages have edited records, the second one from this bound on
-pub record Parted (Edit : List Quad → List Quad → Type 0) (store : Option ℕ) (stores : ℕ) (p q : PageMap) (level : ℕ) (front : List Entry) (bound : Bound) (back : List Entry)
+pub record Parted (Edit : List Quad → List Quad → Type 0) (room : Option Room) (stores : ℕ) (p q : PageMap) (level : ℕ) (front : List Entry) (bound : Bound) (back : List Entry)
     (low : Bound) (high : Option Bound) (quads : List Quad) (below : List Slot) : Type 0 where
   pub after_left : List Quad
   pub after_right : List Quad
@@ -111,12 +113,12 @@ pub record Parted (Edit : List Quad → List Quad → Type 0) (store : Option �
   pub left : Bears q level front low (Some bound) after_left reached_left
   pub right : Bears q level back bound high after_right reached_right
   pub apart : (s : Slot) → Among s reached_left → Among s reached_right → ⊥
-  pub frame : Frame store p q below (reached_left ++ reached_right)
+  pub frame : Frame room p q below (reached_left ++ reached_right)
 
 abbrev pub PartsTo : (List Quad → List Quad → Type 0) → (List Quad → Type 0) → Option ℕ → Bound → PageState → PageState → Content → List Entry → Bound → List Entry → Type 0
 PartsTo Edit Given store pair old new content front bound back =
     (under : PageMap) (low : Bound) (high : Option Bound) (quads : List Quad) (below : List Slot) → IsMet Given pair old new content under low high quads below
-    → Parted Edit store new.stores (over old.writes under) (over new.writes under) content.level front bound back low high quads below
+    → Parted Edit (room_in store old) new.stores (over old.writes under) (over new.writes under) content.level front bound back low high quads below
 
 -- the page becomes two, the second one from this bound on
 pub record Divides (change : Change) (store : ℕ) (old new : PageState) (content : Content) (left : List ℕ) (bound : Bound) (right : List ℕ) : Type 0 where
@@ -133,6 +135,7 @@ pub record Divides (change : Change) (store : ℕ) (old new : PageState) (conten
 -- a change that may find nothing
 abbrev pub MayMiss : Change → Type 0
 MayMiss (Remove key birth) = Unit {0}
+MayMiss (End key birth death) = Unit {0}
 MayMiss (Replace q) = Unit {0}
 MayMiss (Insert q) = ⊥
 
@@ -169,7 +172,7 @@ pub record PutsTwo (old new : PageState) (slot : Slot) (left : List ℕ) (store 
 -- a call over pages answered this fault, and what was read before is still known
 pub record GaveUp (old new : PageState) (fault : PageFault) : Type 0 where
   pub goes_on : GoesOn old new
-  pub counted : fault ≢ no_memory → old.faults fault < new.faults fault
+  pub counted : fault ≢ no_memory → Rose (old.faults fault) (new.faults fault)
 
 -- the cells with a child more at this index, in one page or two
 abbrev pub Grafts : Content → ℕ → Bound → Slot → Edited → Type 0

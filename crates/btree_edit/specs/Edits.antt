@@ -16,11 +16,6 @@ Nothing quads = Unit {0}
 abbrev pub Lacks : Bound → List Quad → Type 0
 Lacks pair quads = All (λ r. quad_bound r ≢ pair) quads
 
--- a record within the limits of a page
-pub record IsRecord (q : Quad) : Type 0 where
-  pub key : length q.key ≤ 264
-  pub value : length q.value ≤ 1200
-
 -- the record at this key and birth goes; the others stay, in their order
 pub record Removes (pair : Bound) (old new : List Quad) : Type 0 where
   pub below : List Quad
@@ -38,6 +33,15 @@ pub record Replaces (q : Quad) (old new : List Quad) : Type 0 where
   pub was : old ≡ below ++ (gone ∷ above)
   pub place : quad_bound gone ≡ quad_bound q
   pub now : new ≡ below ++ (q ∷ above)
+
+-- the record at this key and birth has this death from now on
+pub record Ends (pair : Bound) (death : ℕ) (old new : List Quad) : Type 0 where
+  pub below : List Quad
+  pub gone : Quad
+  pub above : List Quad
+  pub was : old ≡ below ++ (gone ∷ above)
+  pub place : quad_bound gone ≡ pair
+  pub now : new ≡ below ++ ((record gone { death = death }) ∷ above)
 
 -- this record comes in; where it stands, the order of the records says
 pub record Inserts (q : Quad) (old new : List Quad) : Type 0 where

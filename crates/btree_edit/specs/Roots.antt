@@ -9,7 +9,7 @@ use Rattle.btree_page.specs.Content.{Bound, Spells, inner_entry}
 use Rattle.btree_page.specs.Tree.{IsFormed, quad_bound, root}
 use Rattle.btree_search.specs.Found.{HasCause}
 use Rattle.btree_edit.specs.declared.change.Change.{Change}
-use Rattle.btree_edit.specs.declared.change.Change.TheVariants.{Remove, Replace, Insert}
+use Rattle.btree_edit.specs.declared.change.Change.TheVariants.{Remove, End, Replace, Insert}
 use Rattle.btree_edit.specs.Edits.{bound_at, IsLonger}
 use Rattle.btree_edit.specs.Edited.{EditsIn, LacksIn, HadNoTree, GoesOn, RootStays, RootGrows, HasPutCause}
 use Rattle.btree_edit.specs.Changes.{edit_of, given_of, open_of}
@@ -43,13 +43,22 @@ pub record FailsSo (old new : PageState) (fault : PairFault) : Type 0 where
 -- why a tree may grow: a record came in, or a longer one
 abbrev pub TreeGrows : Change → PageState → PageState → Type 0
 TreeGrows (Remove key birth) old new = ⊥
+TreeGrows (End key birth death) old new = ⊥
 TreeGrows (Replace q) old new = (under : PageMap) → Agrees new.reads under → (quads : List Quad) (slots : List Slot)
     → IsFormed new.stores (over old.writes under) quads slots → IsLonger q.now quads
 TreeGrows (Insert q) old new = Unit {0}
 
+-- a change that lets nothing grow
+abbrev pub NeverGrows : Change → Type 0
+NeverGrows (Remove key birth) = Unit {0}
+NeverGrows (End key birth death) = Unit {0}
+NeverGrows (Replace q) = ⊥
+NeverGrows (Insert q) = ⊥
+
 -- an edit that found nothing
 abbrev pub MissesIn : Change → PageState → PageState → Type 0
 MissesIn (Remove key birth) old new = LacksIn (bound_at key.now birth) old new
+MissesIn (End key birth death) old new = LacksIn (bound_at key.now birth) old new
 MissesIn (Replace q) old new = LacksIn (quad_bound q.now) old new
 MissesIn (Insert q) old new = ⊥
 
@@ -57,7 +66,7 @@ MissesIn (Insert q) old new = ⊥
 abbrev pub IsPut : Change → ℕ → PageState → PageState → Result Bool PairFault → Type 0
 IsPut change store old new (Ok true) =
     EditsIn (edit_of change) (given_of change) (open_of change store) old new × (RootStays old new ⊎ (TreeGrows change old new × RootGrows old new))
-IsPut change store old new (Ok false) = MissesIn change old new
+IsPut change store old new (Ok false) = MissesIn change old new × RootStays old new
 IsPut change store old new (Err fault) = HasPutCause old new (HadNoTree (given_of change) old new) fault
 
 pub record PutsIn (change : Change) (store : ℕ) (old new : PageState) (result : Result Bool PairFault) : Type 0 where

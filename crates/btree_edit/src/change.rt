@@ -12,6 +12,15 @@ pub(crate) enum Change<'a> {
         /// The birth.
         birth: u64,
     },
+    /// The record at a key and a birth has another death from now on.
+    End {
+        /// The key.
+        key: &'a [u8],
+        /// The birth.
+        birth: u64,
+        /// The death.
+        death: u64,
+    },
     /// This record comes in the place of the one at its key and birth.
     Replace(&'a Quad),
     /// This record comes in.
@@ -27,7 +36,7 @@ impl<'a> Change<'a> {
         ensures { result.now ≡ (pair_of self.now).key }
     {
         match self {
-            Change::Remove { key, .. } => key,
+            Change::Remove { key, .. } | Change::End { key, .. } => key,
             Change::Replace(q) | Change::Insert(q) => q.key.as_slice(),
         }
     }
@@ -37,7 +46,7 @@ impl<'a> Change<'a> {
         ensures { result ≡ (pair_of self.now).birth }
     {
         match self {
-            Change::Remove { birth, .. } => *birth,
+            Change::Remove { birth, .. } | Change::End { birth, .. } => *birth,
             Change::Replace(q) | Change::Insert(q) => q.birth,
         }
     }

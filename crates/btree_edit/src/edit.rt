@@ -5,13 +5,13 @@ ghost use Rattle.pair_types.specs.PageMaps.{PageMap, Agrees, over};
 ghost use Rattle.pair_types.specs.declared.quad.Quad.{Quad};
 ghost use Rattle.pair_types.specs.declared.slot.Slot.{Slot};
 ghost use Rattle.btree_page.specs.Content.{IsBelow};
-ghost use Rattle.btree_page.specs.Tree.{quad_bound, least, IsFormed};
+ghost use Rattle.btree_page.specs.Tree.{quad_bound, least, IsRecord, IsFormed};
 ghost use Rattle.btree_search.specs.Found.{HasCause};
-ghost use Rattle.btree_edit.specs.Changes.{FitsChange};
-ghost use Rattle.btree_edit.specs.Edits.{bound_at, Nothing, Lacks, Removes, Replaces, Inserts, IsRecord, IsNoLonger};
+ghost use Rattle.btree_edit.specs.Changes.{FitsChange, edit_of, given_of, open_of};
+ghost use Rattle.btree_edit.specs.Edits.{bound_at, Nothing, Lacks, Removes, Ends, Replaces, Inserts, IsNoLonger};
 ghost use Rattle.btree_edit.specs.Edited.{GoesOn, EditsIn, LacksIn, RootStays, RootGrows, HadNoTree, HasPutCause};
 ghost use Rattle.std.specs.Prelude.{List};
-ghost use Rattle.btree_edit.specs.Roots.{Raises, FailsSo, PutsIn};
+ghost use Rattle.btree_edit.specs.Roots.{Raises, FailsSo, NeverGrows, MissesIn, PutsIn};
 
 use crate::below::{edit_below, inner_cell, put_two};
 use crate::build::build;
@@ -102,6 +102,48 @@ pub fn remove<G: Pages>(
     ensures fault { IfErr result (λ fault.
         HasCause (G.state pages.old) (G.state pages.new) (HadNoTree Nothing (G.state pages.old) (G.state pages.new)) fault) }
 {
+    in_place(alloc, pages, &Change::Remove { key, birth })
+}
+
+/// Sets the death of the record at a key and a birth, and answers whether it was there. Nothing grows,
+/// and no page comes to the tree.
+pub fn end<G: Pages>(
+    alloc: Global,
+    pages: &mut G,
+    key: &[u8],
+    birth: u64,
+    death: u64,
+) -> Result<bool, PairFault>
+    // The list of records has it with this death from now on.
+    ensures ended { IfOk result (λ found. found ≡ true
+        → EditsIn (Ends (bound_at key.now birth) death) Nothing None (G.state pages.old) (G.state pages.new)) }
+    // No record is there, and nothing was written.
+    ensures lacking { IfOk result (λ found. found ≡ false
+        → LacksIn (bound_at key.now birth) (G.state pages.old) (G.state pages.new)) }
+    ensures goes_on { GoesOn (G.state pages.old) (G.state pages.new) }
+    // The root page keeps its level, and has no cell more.
+    ensures root { IfOk result (λ _. RootStays (G.state pages.old) (G.state pages.new)) }
+    // `Odd` where the pages were not those of a tree, and any other fault where a call over pages
+    // answered it.
+    ensures fault { IfErr result (λ fault.
+        HasCause (G.state pages.old) (G.state pages.new) (HadNoTree Nothing (G.state pages.old) (G.state pages.new)) fault) }
+{
+    in_place(alloc, pages, &Change::End { key, birth, death })
+}
+
+/// Edits the tree from its root down by a change that lets nothing grow.
+fn in_place<G: Pages>(alloc: Global, pages: &mut G, change: &Change<'_>) -> Result<bool, PairFault>
+    requires fits { FitsChange change.now }
+    requires never { NeverGrows change.now }
+    ensures edited { IfOk result (λ found. found ≡ true
+        → EditsIn (edit_of change.now) (given_of change.now) (open_of change.now 0) (G.state pages.old) (G.state pages.new)) }
+    ensures lacking { IfOk result (λ found. found ≡ false
+        → MissesIn change.now (G.state pages.old) (G.state pages.new)) }
+    ensures goes_on { GoesOn (G.state pages.old) (G.state pages.new) }
+    ensures root { IfOk result (λ _. RootStays (G.state pages.old) (G.state pages.new)) }
+    ensures fault { IfErr result (λ fault. HasCause (G.state pages.old) (G.state pages.new)
+        (HadNoTree (given_of change.now) (G.state pages.old) (G.state pages.new)) fault) }
+{
     let page = match load(pages, ROOT) {
         Ok(page) => page,
         Err(fault) => return Err(fault),
@@ -110,20 +152,14 @@ pub fn remove<G: Pages>(
         Ok(view) => view,
         Err(fault) => return Err(fault),
     };
-    match edit_below(
-        alloc,
-        pages,
-        &view,
-        &Change::Remove { key, birth },
-        ROOT.store,
-    ) {
+    match edit_below(alloc, pages, &view, change, ROOT.store) {
         Ok(Edited::Missing) => Ok(false),
         Ok(Edited::Below) => Ok(true),
         Ok(Edited::Page(page)) => match pages.write(ROOT, page) {
             Ok(()) => Ok(true),
             Err(fault) => Err(PairFault::Page(fault)),
         },
-        // A page from which a record goes is never divided.
+        // A page to which nothing comes is never divided.
         Ok(Edited::Two { .. }) => Err(PairFault::Odd),
         Err(fault) => Err(fault),
     }

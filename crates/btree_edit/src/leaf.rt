@@ -3,10 +3,10 @@
 ghost use Rattle.std.specs.Prelude.{◌≡◌, ◌≤◌, length, MatchResult, IfOk};
 ghost use Rattle.btree_page.specs.Content.{Fits, leaf_entry};
 ghost use Rattle.std.specs.Prelude.{true};
-ghost use Rattle.btree_page.specs.Tree.{quad_bound, quad_cell};
+ghost use Rattle.btree_page.specs.Tree.{quad_bound, quad_cell, IsRecord};
 ghost use Rattle.btree_page.specs.Cells.{entry_of};
-ghost use Rattle.btree_edit.specs.Edits.{bound_at, IsRecord};
-ghost use Rattle.btree_edit.specs.Changes.{Answers, FitsChange, RemovesCell, ReplacesCell, InsertsCell, IsMissing, IsRefused, EditsLeaf};
+ghost use Rattle.btree_edit.specs.Edits.{bound_at};
+ghost use Rattle.btree_edit.specs.Changes.{ended, Answers, FitsChange, RemovesCell, EndsCell, ReplacesCell, InsertsCell, IsMissing, IsRefused, EditsLeaf};
 
 use crate::build::{cells_of, pages_of};
 use crate::change::Change;
@@ -58,6 +58,48 @@ fn remove_from(
     }
     let mut cells = cells_of(alloc, view)?;
     cells.remove(at);
+    pages_of(alloc, 0, &cells)
+}
+
+/// A cell of a leaf with another death.
+fn with_death<'a>(cell: &Cell<'a>, death: u64) -> Cell<'a>
+    ensures { entry_of result ≡ ended death (entry_of cell.now) }
+{
+    match *cell {
+        Cell::Leaf {
+            key,
+            birth,
+            value,
+            ..
+        } => Cell::Leaf {
+            key,
+            birth,
+            death,
+            value,
+        },
+        Cell::Inner { .. } => *cell,
+    }
+}
+
+/// Sets the death of the record at a key and a birth, if it stands there.
+fn end_in(
+    alloc: Global,
+    view: &PageView<'_>,
+    key: &[u8],
+    birth: u64,
+    death: u64,
+) -> Result<Edited, NoMemory>
+    requires { view.now.level ≡ 0 }
+    ensures { IfOk result (λ edited. Answers (EndsCell (bound_at key.now birth) death view.now.cells)
+        (IsMissing (bound_at key.now birth) view.now.cells) edited) }
+{
+    let at = find_in(view, key, birth);
+    if at == find_past(view, key, birth) {
+        return Ok(Edited::Missing);
+    }
+    let mut cells = cells_of(alloc, view)?;
+    let cell = with_death(&cells[at], death);
+    cells[at] = cell;
     pages_of(alloc, 0, &cells)
 }
 
@@ -114,6 +156,10 @@ pub(crate) fn edit_leaf<'a>(
 {
     match change {
         Change::Remove { key, birth } => match remove_from(alloc, view, key, *birth) {
+            Ok(edited) => Ok(edited),
+            Err(fault) => Err(PairFault::from(fault)),
+        },
+        Change::End { key, birth, death } => match end_in(alloc, view, key, *birth, *death) {
             Ok(edited) => Ok(edited),
             Err(fault) => Err(PairFault::from(fault)),
         },

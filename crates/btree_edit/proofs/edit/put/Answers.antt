@@ -1,7 +1,7 @@
 use Rattle.std.proofs.Common.{inl, arith}
 use Rattle.btree_edit.specs.Edits.{bound_at}
 use Rattle.btree_edit.specs.Changes.{given_of}
-use Rattle.btree_edit.proofs.Tops.{WasRead, root_misshown, tree_fault, tree_changed, tree_written, tree_misses, tree_raised, root_changed, root_written, root_full, root_raised, put_cause, raise_cause}
+use Rattle.btree_edit.proofs.Tops.{WasRead, root_misshown, tree_fault, tree_changed, tree_written, tree_misses, tree_raised, root_changed, root_missing, root_written, root_full, root_raised, put_cause, raise_cause}
 use Rattle.btree_edit.proofs.States.{goes_only, goes_then, goes_write, goes_gives_up}
 use Rattle.btree_edit.proofs.edit.put.Goals as goal
 
@@ -15,7 +15,7 @@ pub returns-in-Ok-Missing : goal.returns-in-Ok-Missing
 returns-in-Ok-Missing g c =
     let read : WasRead _ _ c.in-Ok-view_of.view c.in-Ok.page = record { reads = c.in-Ok.ensures.page; only = c.in-Ok.ensures.only_reads; shown = c.in-Ok-view_of.ensures.shown } in
     let done = rw c.in-Ok-Missing.field-0-is at c.in-Ok-Missing.ensures in
-    record { goes_on = goes_then _ _ _ (goes_only _ _ c.in-Ok.ensures.only_reads) done.goes_on; answer = tree_misses c.args.change.now c.args.store _ _ _ c.in-Ok-view_of.view c.in-Ok.page read done }
+    record { goes_on = goes_then _ _ _ (goes_only _ _ c.in-Ok.ensures.only_reads) done.goes_on; answer = (tree_misses c.args.change.now c.args.store _ _ _ c.in-Ok-view_of.view c.in-Ok.page read done, root_missing c.args.change.now c.args.store _ _ _ c.in-Ok-view_of.view c.in-Ok.page read done) }
 
 pub returns-in-Ok-Below : goal.returns-in-Ok-Below
 returns-in-Ok-Below g c =

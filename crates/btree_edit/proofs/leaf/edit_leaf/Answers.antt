@@ -14,3 +14,9 @@ returns-in-Err c = rw c.in-Remove.is c.from.ensures
 
 pub returns-in-Err-replace_in : goal.returns-in-Err-replace_in
 returns-in-Err-replace_in c = rw c.in-Replace.is c.from-in-Err-replace_in.ensures
+
+pub returns-in-Ok-end_in : goal.returns-in-Ok-end_in
+returns-in-Ok-end_in c = rw c.in-End.is c.in-Ok-end_in.ensures
+
+pub returns-in-Err-end_in : goal.returns-in-Err-end_in
+returns-in-Err-end_in c = rw c.in-End.is c.from-in-Err-end_in.ensures
