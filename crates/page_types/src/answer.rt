@@ -1,7 +1,5 @@
 //! Answers of a store.
 
-ghost use Rattle.std.specs.Prelude.{◌≡◌, IfOk};
-
 use crate::copying::{copy_numbers, copy_parts};
 use crate::outcome::Outcome;
 use nfs3_types::{Copies, ListOf, NoMemory};

@@ -2,15 +2,61 @@
 
 ghost use Rattle.std.specs.Prelude.{◌≡◌, IfOk};
 
-use crate::copying::{copy_entry, copy_numbers, copy_parts};
 use crate::outcome::Outcome;
+use crate::shared::Shared;
 use crate::versions::{PageRead, PageWrite};
 use nfs3_types::{Copies, Entry, ListOf, NoMemory};
 use pair_types::Tid;
 use std::alloc::Global;
 
-/// A command to a store. Reads and writes stand in rising number, no number twice in either, and each
-/// written number is among the reads.
+/// A transaction that one store commits alone. Reads and writes stand in rising number, no number twice in
+/// either, and each written number is among the reads.
+#[derive(Debug, Drop)]
+pub struct Transaction {
+    /// Which it is.
+    pub tid: Tid,
+    /// What it read.
+    pub reads: ListOf<PageRead>,
+    /// What it writes.
+    pub writes: ListOf<PageWrite>,
+    /// The call that it serves, and its reply.
+    pub entry: Option<Shared<Entry>>,
+}
+
+/// The part of one store in a transaction of several. Reads and writes are as in a [`Transaction`].
+#[derive(Debug, Drop)]
+pub struct Part {
+    /// The transaction.
+    pub tid: Tid,
+    /// The store at which it is decided.
+    pub home: u32,
+    /// The stores that take part.
+    pub parts: ListOf<u32>,
+    /// What it read here.
+    pub reads: ListOf<PageRead>,
+    /// What it writes here.
+    pub writes: ListOf<PageWrite>,
+}
+
+/// How a transaction is to end.
+#[derive(Debug, Drop)]
+pub struct Decision {
+    /// The transaction.
+    pub tid: Tid,
+    /// How it is to end.
+    pub outcome: Outcome,
+}
+
+/// That a transaction's part ends.
+#[derive(Clone, Copy, Debug, PartialEq, Eq)]
+pub struct Resolution {
+    /// The transaction.
+    pub tid: Tid,
+    /// Whether it was committed.
+    pub commit: bool,
+}
+
+/// A command to a store. It is small, and its copies share what is large.
 #[derive(Debug, Drop)]
 pub enum Command {
     /// Asks for a number that was never given.
@@ -20,86 +66,58 @@ pub enum Command {
         /// The page's number.
         number: u64,
     },
-    /// Asks for the versions of pages.
-    Look {
-        /// The pages' numbers.
-        numbers: ListOf<u64>,
-    },
+    /// Asks for the versions of the pages of these numbers.
+    Look(Shared<ListOf<u64>>),
     /// Commits a transaction that has this one part.
-    Write {
-        /// The transaction.
-        tid: Tid,
-        /// What it read.
-        reads: ListOf<PageRead>,
-        /// What it writes.
-        writes: ListOf<PageWrite>,
-        /// The call that it serves, and its reply.
-        entry: Option<Entry>,
-    },
+    Write(Shared<Transaction>),
     /// Prepares a part of a transaction of several.
-    Prepare {
-        /// The transaction.
-        tid: Tid,
-        /// The store at which it is decided.
-        home: u32,
-        /// The stores that take part.
-        parts: ListOf<u32>,
-        /// What it read here.
-        reads: ListOf<PageRead>,
-        /// What it writes here.
-        writes: ListOf<PageWrite>,
-    },
+    Prepare(Shared<Part>),
     /// Decides a transaction, at its home.
-    Decide {
-        /// The transaction.
-        tid: Tid,
-        /// How it is to end.
-        outcome: Outcome,
-    },
+    Decide(Shared<Decision>),
     /// Ends a part of a transaction that was decided.
-    Resolve {
-        /// The transaction.
-        tid: Tid,
-        /// Whether it was committed.
-        commit: bool,
-    },
+    Resolve(Shared<Resolution>),
 }
 
 impl Command {
-    fn copy_of_write(
-        alloc: Global,
-        tid: Tid,
-        reads: &ListOf<PageRead>,
-        writes: &ListOf<PageWrite>,
-        entry: &Option<Entry>,
-    ) -> Result<Command, NoMemory>
-        ensures { IfOk result (λ command. command ≡ Command.Write tid reads.now writes.now entry.now) }
+    ghost use Rattle.page_types.specs.declared.command.Command.TheVariants.{Look, Write, Prepare, Decide, Resolve};
+
+    /// A `Look` at the pages of these numbers.
+    pub fn look(alloc: Global, numbers: ListOf<u64>) -> Result<Command, NoMemory>
+        ensures { IfOk result (λ command. command ≡ Look numbers) }
     {
-        Ok(Command::Write {
-            tid,
-            reads: reads.copy(alloc)?,
-            writes: writes.copy(alloc)?,
-            entry: copy_entry(alloc, entry)?,
-        })
+        Ok(Command::Look(Shared::new(alloc, numbers)?))
     }
 
-    fn copy_of_prepare(
-        alloc: Global,
-        tid: Tid,
-        home: u32,
-        parts: &ListOf<u32>,
-        reads: &ListOf<PageRead>,
-        writes: &ListOf<PageWrite>,
-    ) -> Result<Command, NoMemory>
-        ensures { IfOk result (λ command. command ≡ Command.Prepare tid home parts.now reads.now writes.now) }
+    /// A `Write` of the transaction.
+    pub fn write(alloc: Global, transaction: Transaction) -> Result<Command, NoMemory>
+        ensures { IfOk result (λ command. command ≡ Write transaction) }
     {
-        Ok(Command::Prepare {
-            tid,
-            home,
-            parts: copy_parts(alloc, parts)?,
-            reads: reads.copy(alloc)?,
-            writes: writes.copy(alloc)?,
-        })
+        Ok(Command::Write(Shared::new(alloc, transaction)?))
+    }
+
+    /// A `Prepare` of the part.
+    pub fn prepare(alloc: Global, part: Part) -> Result<Command, NoMemory>
+        ensures { IfOk result (λ command. command ≡ Prepare part) }
+    {
+        Ok(Command::Prepare(Shared::new(alloc, part)?))
+    }
+
+    /// A `Decide` of the transaction.
+    pub fn decide(alloc: Global, tid: Tid, outcome: Outcome) -> Result<Command, NoMemory>
+        ensures { IfOk result
+            (λ command. command ≡ Decide (record { tid = tid; outcome = outcome })) }
+    {
+        let decision = Decision { tid, outcome };
+        Ok(Command::Decide(Shared::new(alloc, decision)?))
+    }
+
+    /// A `Resolve` of the transaction.
+    pub fn resolve(alloc: Global, tid: Tid, commit: bool) -> Result<Command, NoMemory>
+        ensures { IfOk result
+            (λ command. command ≡ Resolve (record { tid = tid; commit = commit })) }
+    {
+        let resolution = Resolution { tid, commit };
+        Ok(Command::Resolve(Shared::new(alloc, resolution)?))
     }
 }
 
@@ -108,30 +126,11 @@ impl Copies for Command {
         match self {
             Command::Fresh => Ok(Command::Fresh),
             Command::Read { number } => Ok(Command::Read { number: *number }),
-            Command::Look { numbers } => Ok(Command::Look {
-                numbers: copy_numbers(alloc, numbers)?,
-            }),
-            Command::Write {
-                tid,
-                reads,
-                writes,
-                entry,
-            } => Command::copy_of_write(alloc, *tid, reads, writes, entry),
-            Command::Prepare {
-                tid,
-                home,
-                parts,
-                reads,
-                writes,
-            } => Command::copy_of_prepare(alloc, *tid, *home, parts, reads, writes),
-            Command::Decide { tid, outcome } => Ok(Command::Decide {
-                tid: *tid,
-                outcome: outcome.copy(alloc)?,
-            }),
-            Command::Resolve { tid, commit } => Ok(Command::Resolve {
-                tid: *tid,
-                commit: *commit,
-            }),
+            Command::Look(numbers) => Ok(Command::Look(numbers.copy(alloc)?)),
+            Command::Write(transaction) => Ok(Command::Write(transaction.copy(alloc)?)),
+            Command::Prepare(part) => Ok(Command::Prepare(part.copy(alloc)?)),
+            Command::Decide(decision) => Ok(Command::Decide(decision.copy(alloc)?)),
+            Command::Resolve(resolution) => Ok(Command::Resolve(resolution.copy(alloc)?)),
         }
     }
 }

@@ -1,9 +1,7 @@
 //! Holds: what a prepared transaction keeps of a page until it is resolved.
 
-ghost use Rattle.std.specs.Prelude.{◌≡◌, IfOk};
-
 use crate::copying::copy_parts;
-use nfs3_types::{ListOf, NoMemory};
+use nfs3_types::{Copies, ListOf, NoMemory};
 use pair_types::{Page, Tid};
 use std::alloc::Global;
 
@@ -27,11 +25,8 @@ pub struct WriteHold {
     pub content: Page,
 }
 
-impl Hold {
-    /// An equal hold, or `NoMemory`.
-    pub fn copy(&self, alloc: Global) -> Result<Hold, NoMemory>
-        ensures { IfOk result (λ hold. hold ≡ self.now) }
-    {
+impl Copies for Hold {
+    fn copy(&self, alloc: Global) -> Result<Hold, NoMemory> {
         Ok(Hold {
             tid: self.tid,
             home: self.home,
@@ -40,11 +35,8 @@ impl Hold {
     }
 }
 
-impl WriteHold {
-    /// An equal hold, or `NoMemory`.
-    pub fn copy(&self, alloc: Global) -> Result<WriteHold, NoMemory>
-        ensures { IfOk result (λ hold. hold ≡ self.now) }
-    {
+impl Copies for WriteHold {
+    fn copy(&self, alloc: Global) -> Result<WriteHold, NoMemory> {
         Ok(WriteHold {
             hold: self.hold.copy(alloc)?,
             content: self.content.copy()?,

@@ -1,7 +1,5 @@
 //! What a transaction read and what it writes, in one store.
 
-ghost use Rattle.std.specs.Prelude.{◌≡◌, IfOk};
-
 use nfs3_types::{Copies, NoMemory};
 use pair_types::Page;
 use std::alloc::Global;
