@@ -12,7 +12,8 @@ use Rattle.paxos_core.specs.Proposing.{Proposing, begins, is_promised, is_for, i
 use Rattle.paxos_core.specs.World.{World, with_proposer, at_proposer, put_by}
 use Rattle.paxos_core.specs.Votes.{HasVote}
 use Rattle.paxos_core.proofs.MajorityLemmas.{meet, true_in_set, none_at_first}
-use Rattle.paxos_core.proofs.Invariant.{floor, Choosable, Decided, Safe, Reaches, IsVoteOf, IsSomeVote, StandingOk, PromiseOk, MessageOk, MessagesOk, ProposerOk, IsLater, Ok}
+use Rattle.paxos_core.proofs.Invariant.{floor, Choosable, Decided, Safe, Reaches, IsVoteOf, IsSomeVote, StandingOk, PromiseOk}
+use Rattle.paxos_core.proofs.Invariant.{MessageOk, MessagesOk, ProposerOk, IsLater, Ok}
 use Rattle.paxos_core.proofs.Later.{safe_later, messages_later, proposer_later, vote_of_later}
 use Rattle.paxos_core.proofs.AtAcceptor.{same_place}
 use Rattle.paxos_core.proofs.Acceptance.{same_number}
@@ -20,27 +21,31 @@ use Rattle.paxos_core.proofs.ProposingLemmas.{and_true, not_true, is_for_means, 
 
 module _ {V : Type 0} where
   -- the ballot's proposer, where its value is decided
-  pub decided_is : (w : World V) (i b : ℕ) (v : V) (p : Proposing V) → Decided w i b v → w.proposers i b ≡ Some p → (is_promised p ≡ true) × (value_of p ≡ v)
+  pub decided_is : (w : World V) (i b : ℕ) (v : V) (p : Proposing V) → Decided w i b v → w.proposers i b ≡ Some p →
+      (is_promised p ≡ true) × (value_of p ≡ v)
   decided_is w i b v p d there =
       let both : Some d.who ≡ Some p = sym d.there ∙ there in
       let same : d.who ≡ p = cc in
       (subst (λ p. is_promised p ≡ true) same d.promised, subst (λ p. value_of p ≡ v) same d.value)
 
   -- two votes under one ballot are for one value
-  pub votes_agree : (n : ℕ) (w : World V) → Ok n w → (r q i b : ℕ) (x y : V) → HasVote w.votes r i b x → HasVote w.votes q i b y → x ≡ y
+  pub votes_agree : (n : ℕ) (w : World V) → Ok n w → (r q i b : ℕ) (x y : V) → HasVote w.votes r i b x →
+      HasVote w.votes q i b y → x ≡ y
   votes_agree n w ok r q i b x y h k =
       let d = (ok.voted r i b x h).decided in
       let e = decided_is w i b y d.who (ok.voted q i b y k).decided d.there in
       sym d.value ∙ e.1
 
   -- a promised proposer's value is safe to put
-  pub safe_value : (n : ℕ) (w : World V) → Ok n w → (i b : ℕ) (p : Proposing V) → w.proposers i b ≡ Some p → is_promised p ≡ true → Safe n w i b (value_of p)
+  pub safe_value : (n : ℕ) (w : World V) → Ok n w → (i b : ℕ) (p : Proposing V) → w.proposers i b ≡ Some p →
+      is_promised p ≡ true → Safe n w i b (value_of p)
   safe_value n w ok i b p there promised =
       let k = ok.proposers i b p there in
       record {
         decided = record { who = p; there = there; promised = promised; value = refl };
         only = λ c x lt may.
-            let heard : IsMajority n (λ r. slice_get p.heard r ≡ Some true) = record { marks = p.heard; count = k.heard_length; most = promised; each = λ r h. h } in
+            let heard : IsMajority n (λ r. slice_get p.heard r ≡ Some true) =
+            record { marks = p.heard; count = k.heard_length; most = promised; each = λ r h. h } in
             let both = meet n heard may in
             let top = k.floors both.0 both.1 in
             elim both.2 [
@@ -49,7 +54,8 @@ module _ {V : Type 0} where
             ];
       }
     where
-      highest : (c : ℕ) (x : V) → c < b → Choosable n w i c x → (r : ℕ) → HasVote w.votes r i c x → (best : Option (Ballot × V)) → Reaches best c → IsSomeVote w i b best → x ≡ preferred p.own best
+      highest : (c : ℕ) (x : V) → c < b → Choosable n w i c x → (r : ℕ) → HasVote w.votes r i c x →
+          (best : Option (Ballot × V)) → Reaches best c → IsSomeVote w i b best → x ≡ preferred p.own best
       highest c x lt may r vote None reach real = absurd reach
       highest c x lt may r vote (Some y) reach real = equal_or_below (rank y.0 == c) refl
         where
@@ -96,7 +102,8 @@ module _ {V : Type 0} (n : ℕ) (w w' : World V) (i b : ℕ) (p : Proposing V) (
           | inl e ↦
               let d' : Decided w i b v = subst (λ j. Decided w j b v) e.0 (subst (λ c. Decided w j c v) e.1 d) in
               let k = s.held v d' in
-              subst (λ j. Decided w' j c v) (sym e.0) (subst (λ c. Decided w' i c v) (sym e.1) (record { who = p; there = s.here; promised = k.0; value = k.1 }))
+              subst (λ j. Decided w' j c v) (sym e.0)
+              (subst (λ c. Decided w' i c v) (sym e.1) (record { who = p; there = s.here; promised = k.0; value = k.1 }))
           | inr other ↦ record { who = d.who; there = s.others j c other ∙ d.there; promised = d.promised; value = d.value }
         ];
       }
@@ -114,10 +121,12 @@ module _ {V : Type 0} (n : ℕ) (w w' : World V) (i b : ℕ) (p : Proposing V) (
                   (vote_of_later n w w' later_by_set q j (floor w q j) (w.standings q j).accepted k.real);
             });
         messages = messages;
-        voted = λ q j c x h. safe_later n w w' later_by_set j c x (ok.voted q j c x (subst (λ votes. HasVote votes q j c x) s.votes h));
+        voted = λ q j c x h. safe_later n w w' later_by_set j c x
+            (ok.voted q j c x (subst (λ votes. HasVote votes q j c x) s.votes h));
         proposers = λ j c p' there. elim (same_place j i c b) [
           | inl e ↦
-              let there' : w'.proposers i b ≡ Some p' = subst (λ j. w'.proposers j b ≡ Some p') e.0 (subst (λ c. w'.proposers j c ≡ Some p') e.1 there) in
+              let there' : w'.proposers i b ≡ Some p' =
+              subst (λ j. w'.proposers j b ≡ Some p') e.0 (subst (λ c. w'.proposers j c ≡ Some p') e.1 there) in
               let both : Some p ≡ Some p' = sym s.here ∙ there' in
               let same : p ≡ p' = cc in
               subst (λ j. ProposerOk n w' j c p') (sym e.0) (subst (λ c. ProposerOk n w' i c p') (sym e.1)
@@ -131,7 +140,11 @@ module _ {V : Type 0} (n : ℕ) (w : World V) (ok : Ok n w) where
   pub ok_begin : (i : ℕ) (b : Ballot) (v : V) → w.proposers i (rank b) ≡ None →
       Ok n (record w { proposers = with_proposer w.proposers i (rank b) (begins n i b v); sent = Ask i b ∷ w.sent })
   ok_begin i b v free =
-      let w' : World V = record w { proposers = with_proposer w.proposers i (rank b) (begins n i b v); sent = Ask i b ∷ w.sent } in
+      let w' : World V = record w {
+        proposers = with_proposer w.proposers i (rank b) (begins n i b v);
+        sent =
+            Ask i b ∷ w.sent;
+      } in
       let p = begins n i b v in
       let s : Sets w w' i (rank b) p =
       record {
@@ -155,7 +168,8 @@ module _ {V : Type 0} (n : ℕ) (w : World V) (ok : Ok n w) where
       ok (tt, messages_later n w w' (later_by_set n w w' i (rank b) p s) w.sent ok.messages)
 
   -- what a message makes of a proposer
-  pub told_ok : (i b : ℕ) (p : Proposing V) → w.proposers i b ≡ Some p → (m : Message V) → MessageOk n w m → ProposerOk n w i b (told p m)
+  pub told_ok : (i b : ℕ) (p : Proposing V) → w.proposers i b ≡ Some p → (m : Message V) → MessageOk n w m →
+      ProposerOk n w i b (told p m)
   told_ok i b p there (Ask j a) h = ok.proposers i b p there
   told_ok i b p there (Put j a v) h = ok.proposers i b p there
   told_ok i b p there (Nack r j a) h = ok.proposers i b p there
@@ -179,7 +193,8 @@ module _ {V : Type 0} (n : ℕ) (w : World V) (ok : Ok n w) where
           not_equal : (x y : ℕ) → x ≤ y → (x ≡ y → ⊥) → x < y
           not_equal x y le ne = omega arith
 
-      go : (t : Bool) → (is_for p j a && (is_new p r && not (is_promised p))) ≡ t → ProposerOk n w i b (told p (Promise r j a accepted))
+      go : (t : Bool) → (is_for p j a && (is_new p r && not (is_promised p))) ≡ t →
+          ProposerOk n w i b (told p (Promise r j a accepted))
       go false e = rw e k
       go true e =
           let parts = and_true (is_for p j a) (is_new p r && not (is_promised p)) e in
@@ -188,7 +203,8 @@ module _ {V : Type 0} (n : ℕ) (w : World V) (ok : Ok n w) where
           let mine = is_for_means p j a parts.0 in
           let at_index : j ≡ i = mine.0 ∙ k.index in
           let at_ballot : rank a ≡ b = mine.1 ∙ k.ballot in
-          let promise : PromiseOk w r i b accepted = subst (λ b. PromiseOk w r i b accepted) at_ballot (subst (λ j. PromiseOk w r j (rank a) accepted) at_index h) in
+          let promise : PromiseOk w r i b accepted =
+          subst (λ b. PromiseOk w r i b accepted) at_ballot (subst (λ j. PromiseOk w r j (rank a) accepted) at_index h) in
           rw e
           (record {
             index = k.index;
@@ -218,7 +234,8 @@ module _ {V : Type 0} (n : ℕ) (w : World V) (ok : Ok n w) where
           let mine = is_for_means p j a parts.0 in
           let at_index : j ≡ i = mine.0 ∙ k.index in
           let at_ballot : rank a ≡ b = mine.1 ∙ k.ballot in
-          let vote : HasVote w.votes r i b h.0 = subst (λ b. HasVote w.votes r i b h.0) at_ballot (subst (λ j. HasVote w.votes r j (rank a) h.0) at_index h.1) in
+          let vote : HasVote w.votes r i b h.0 =
+          subst (λ b. HasVote w.votes r i b h.0) at_ballot (subst (λ j. HasVote w.votes r j (rank a) h.0) at_index h.1) in
           let d = decided_is w i b h.0 p (ok.voted r i b h.0 vote).decided there in
           let mine : HasVote w.votes r i b (value_of p) = subst (λ x. HasVote w.votes r i b x) (sym d.1) vote in
           rw e
@@ -240,7 +257,8 @@ module _ {V : Type 0} (n : ℕ) (w : World V) (ok : Ok n w) where
           })
 
   -- a message comes to a proposer
-  pub ok_at_proposer : (i b : ℕ) (o : Option (Proposing V)) → w.proposers i b ≡ o → (m : Option (Message V)) → ((x : Message V) → m ≡ Some x → MessageOk n w x) → Ok n (at_proposer w i b o m)
+  pub ok_at_proposer : (i b : ℕ) (o : Option (Proposing V)) → w.proposers i b ≡ o → (m : Option (Message V)) →
+      ((x : Message V) → m ≡ Some x → MessageOk n w x) → Ok n (at_proposer w i b o m)
   ok_at_proposer i b None there m h = ok
   ok_at_proposer i b (Some p) there None h = ok
   ok_at_proposer i b (Some p) there (Some m) h =
@@ -266,9 +284,17 @@ module _ {V : Type 0} (n : ℕ) (w : World V) (ok : Ok n w) where
       go true e =
           let w' : World V = record w { sent = Put p.index p.ballot (value_of p) ∷ w.sent } in
           let k = ok.proposers i b p there in
-          let s : Sets w w' i b p = record { standings = refl; votes = refl; here = there; others = λ j c other. refl; held = λ v d. decided_is w i b v p d there } in
+          let s : Sets w w' i b p = record {
+            standings = refl;
+            votes = refl;
+            here = there;
+            others = λ j c other. refl;
+            held =
+                λ v d. decided_is w i b v p d there;
+          } in
           let later = later_by_set n w w' i b p s in
           let safe = safe_later n w w' later i b (value_of p) (safe_value n w ok i b p there e) in
           let safe' : Safe n w' p.index (rank p.ballot) (value_of p) =
-          subst (λ j. Safe n w' j (rank p.ballot) (value_of p)) (sym k.index) (subst (λ c. Safe n w' i c (value_of p)) (sym k.ballot) safe) in
+          subst (λ j. Safe n w' j (rank p.ballot) (value_of p)) (sym k.index)
+          (subst (λ c. Safe n w' i c (value_of p)) (sym k.ballot) safe) in
           rw e (ok_by_set n w w' i b p s k ok (safe', messages_later n w w' later w.sent ok.messages))

@@ -9,7 +9,8 @@ use Rattle.paxos_core.specs.Proposing.{Proposing}
 use Rattle.paxos_core.specs.World.{World}
 use Rattle.paxos_core.specs.Votes.{HasVote}
 use Rattle.paxos_core.proofs.MajorityLemmas.{IsMajority-map}
-use Rattle.paxos_core.proofs.Invariant.{floor, Choosable, Safe, IsVoteOf, IsSomeVote, PromiseOk, MessageOk, MessagesOk, ProposerOk, IsLater}
+use Rattle.paxos_core.proofs.Invariant.{floor, Choosable, Safe, IsVoteOf, IsSomeVote, PromiseOk, MessageOk, MessagesOk}
+use Rattle.paxos_core.proofs.Invariant.{ProposerOk, IsLater}
 
 module _ {V : Type 0} (n : ℕ) (w w' : World V) (later : IsLater w w') where
   -- a vote below what the replica had promised is not new
@@ -29,11 +30,13 @@ module _ {V : Type 0} (n : ℕ) (w w' : World V) (later : IsLater w w') where
         only = λ c x lt may. s.only c x lt (choosable_before i c x may);
       }
 
-  pub vote_of_later : (r i top : ℕ) (accepted : Option (Ballot × V)) → IsVoteOf w r i top accepted → IsVoteOf w' r i top accepted
+  pub vote_of_later : (r i top : ℕ) (accepted : Option (Ballot × V)) → IsVoteOf w r i top accepted →
+      IsVoteOf w' r i top accepted
   vote_of_later r i top None h = tt
   vote_of_later r i top (Some y) h = (later.votes r i (rank y.0) y.1 h.0, h.1)
 
-  pub some_vote_later : (i top : ℕ) (accepted : Option (Ballot × V)) → IsSomeVote w i top accepted → IsSomeVote w' i top accepted
+  pub some_vote_later : (i top : ℕ) (accepted : Option (Ballot × V)) → IsSomeVote w i top accepted →
+      IsSomeVote w' i top accepted
   some_vote_later i top None h = tt
   some_vote_later i top (Some y) h = (h.0, later.votes h.0 i (rank y.0) y.1 h.1, h.2)
 
@@ -66,13 +69,15 @@ module _ {V : Type 0} (n : ℕ) (w w' : World V) (later : IsLater w w') where
         heard_length = ok.heard_length;
         acked_length = ok.acked_length;
         floors = λ r h. let floors : floor w r i ≤ floor w' r i = later.floors r i in let k = ok.floors r h in omega arith;
-        reach = λ r c x heard vote lt. let k = ok.floors r heard in ok.reach r c x heard (old_vote r i c x vote (omega arith)) lt;
+        reach = λ r c x heard vote lt. let k = ok.floors r heard in
+            ok.reach r c x heard (old_vote r i c x vote (omega arith)) lt;
         real = some_vote_later i b p.best ok.real;
         acked = λ r h. let k = ok.acked r h in (k.0, later.votes r i b _ k.1);
       }
 
 -- what is true of all messages is true of the one at a place
-pub message_at : {V : Type 0} (n : ℕ) (w : World V) (ms : List (Message V)) (k : ℕ) (m : Message V) → slice_get ms k ≡ Some m → MessagesOk n w ms → MessageOk n w m
+pub message_at : {V : Type 0} (n : ℕ) (w : World V) (ms : List (Message V)) (k : ℕ) (m : Message V) → slice_get ms k ≡ Some m →
+    MessagesOk n w ms → MessageOk n w m
 message_at n w [] k m e ok = cc
 message_at n w (x ∷ ms) zero m e ok = let same : x ≡ m = cc in subst (λ y. MessageOk n w y) same ok.0
 message_at n w (x ∷ ms) (suc k) m e ok = message_at n w ms k m e ok.1

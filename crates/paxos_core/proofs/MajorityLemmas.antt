@@ -1,5 +1,6 @@
 -- Two majorities share a replica.
-use Rattle.std.proofs.Common.{◌≡◌, ℕ, zero, suc, ◌+◌, ◌*◌, ◌<◌, ◌≤◌, Bool, true, false, cond, List, [], ◌∷◌, length, refl, arith, replicate, ◌⊎◌, inl, inr}
+use Rattle.std.proofs.Common.{◌≡◌, ℕ, zero, suc, ◌+◌, ◌*◌, ◌<◌, ◌≤◌, Bool, true, false, cond, List, [], ◌∷◌, length, refl}
+use Rattle.std.proofs.Common.{arith, replicate, ◌⊎◌, inl, inr}
 use Rattle.std.specs.Prelude.{slice_get, Some, slice_set}
 use Rattle.std.specs.List.{count_by}
 use Rattle.std.proofs.lemmas.Bool.Decides.{nat_tests}
@@ -16,14 +17,18 @@ pub yes_false : (xs : List Bool) → yes_count (false ∷ xs) ≡ yes_count xs
 yes_false xs = grind arith
 
 -- where two lists of as many marks have more true ones than places, one place is true in both
-pub shared : (xs ys : List Bool) → length xs ≡ length ys → length xs < yes_count xs + yes_count ys → (r : ℕ) × (slice_get xs r ≡ Some true) × (slice_get ys r ≡ Some true)
+pub shared : (xs ys : List Bool) → length xs ≡ length ys → length xs < yes_count xs + yes_count ys →
+    (r : ℕ) × (slice_get xs r ≡ Some true) × (slice_get ys r ≡ Some true)
 shared [] [] e h = absurd (omega arith)
 shared [] (y ∷ ys) e h = absurd (omega arith)
 shared (x ∷ xs) [] e h = absurd (omega arith)
 shared (true ∷ xs) (true ∷ ys) e h = (0, refl, refl)
-shared (true ∷ xs) (false ∷ ys) e h = let k = shared xs ys (omega arith) (omega (arith, yes_true xs, yes_false ys)) in (suc k.0, k.1, k.2)
-shared (false ∷ xs) (true ∷ ys) e h = let k = shared xs ys (omega arith) (omega (arith, yes_false xs, yes_true ys)) in (suc k.0, k.1, k.2)
-shared (false ∷ xs) (false ∷ ys) e h = let k = shared xs ys (omega arith) (omega (arith, yes_false xs, yes_false ys)) in (suc k.0, k.1, k.2)
+shared (true ∷ xs) (false ∷ ys) e h = let k = shared xs ys (omega arith) (omega (arith, yes_true xs, yes_false ys)) in
+    (suc k.0, k.1, k.2)
+shared (false ∷ xs) (true ∷ ys) e h = let k = shared xs ys (omega arith) (omega (arith, yes_false xs, yes_true ys)) in
+    (suc k.0, k.1, k.2)
+shared (false ∷ xs) (false ∷ ys) e h = let k = shared xs ys (omega arith) (omega (arith, yes_false xs, yes_false ys)) in
+    (suc k.0, k.1, k.2)
 
 -- a majority is more than half
 pub more_than_half : (marks : List Bool) → is_majority marks ≡ true → length marks < 2 * yes_count marks
@@ -42,17 +47,22 @@ pub IsMajority-map : {P Q : ℕ → Type 0} (n : ℕ) → ((r : ℕ) → P r →
 IsMajority-map n f p = record { marks = p.marks; count = p.count; most = p.most; each = λ r h. f r (p.each r h) }
 
 -- more marks are true where each that was true still is
-pub yes_count-mono : (xs ys : List Bool) → length xs ≡ length ys → ((r : ℕ) → slice_get xs r ≡ Some true → slice_get ys r ≡ Some true) → yes_count xs ≤ yes_count ys
+pub yes_count-mono : (xs ys : List Bool) → length xs ≡ length ys →
+    ((r : ℕ) → slice_get xs r ≡ Some true → slice_get ys r ≡ Some true) → yes_count xs ≤ yes_count ys
 yes_count-mono [] [] e h = omega arith
 yes_count-mono [] (y ∷ ys) e h = omega arith
 yes_count-mono (x ∷ xs) [] e h = absurd (omega arith)
-yes_count-mono (true ∷ xs) (true ∷ ys) e h = let k = yes_count-mono xs ys (omega arith) (λ r. h (suc r)) in omega (arith, yes_true xs, yes_true ys)
-yes_count-mono (false ∷ xs) (true ∷ ys) e h = let k = yes_count-mono xs ys (omega arith) (λ r. h (suc r)) in omega (arith, yes_false xs, yes_true ys)
+yes_count-mono (true ∷ xs) (true ∷ ys) e h = let k = yes_count-mono xs ys (omega arith) (λ r. h (suc r)) in
+    omega (arith, yes_true xs, yes_true ys)
+yes_count-mono (false ∷ xs) (true ∷ ys) e h = let k = yes_count-mono xs ys (omega arith) (λ r. h (suc r)) in
+    omega (arith, yes_false xs, yes_true ys)
 yes_count-mono (true ∷ xs) (false ∷ ys) e h = let k : Some false ≡ Some true = h 0 refl in cc
-yes_count-mono (false ∷ xs) (false ∷ ys) e h = let k = yes_count-mono xs ys (omega arith) (λ r. h (suc r)) in omega (arith, yes_false xs, yes_false ys)
+yes_count-mono (false ∷ xs) (false ∷ ys) e h = let k = yes_count-mono xs ys (omega arith) (λ r. h (suc r)) in
+    omega (arith, yes_false xs, yes_false ys)
 
 -- marks are a majority where all those of a majority are among them
-pub majority-mono : (xs ys : List Bool) → length xs ≡ length ys → ((r : ℕ) → slice_get xs r ≡ Some true → slice_get ys r ≡ Some true) → is_majority xs ≡ true → is_majority ys ≡ true
+pub majority-mono : (xs ys : List Bool) → length xs ≡ length ys →
+    ((r : ℕ) → slice_get xs r ≡ Some true → slice_get ys r ≡ Some true) → is_majority xs ≡ true → is_majority ys ≡ true
 majority-mono xs ys e h most =
     let k = yes_count-mono xs ys e h in
     let l = more_than_half xs most in
@@ -60,7 +70,8 @@ majority-mono xs ys e h most =
     grind (arith, nat_tests)
 
 -- what is true in a list with one more true mark
-pub true_in_set : (xs : List Bool) (i r : ℕ) → slice_get (slice_set xs i true) r ≡ Some true → (r ≡ i) ⊎ (slice_get xs r ≡ Some true)
+pub true_in_set : (xs : List Bool) (i r : ℕ) → slice_get (slice_set xs i true) r ≡ Some true →
+    (r ≡ i) ⊎ (slice_get xs r ≡ Some true)
 true_in_set [] i r h = inr h
 true_in_set (x ∷ xs) zero zero h = inl refl
 true_in_set (x ∷ xs) zero (suc r) h = inr h

@@ -1,5 +1,6 @@
 -- A proposer follows the messages: what it heard, the best value, and what was acked.
-use Rattle.std.proofs.Common.{◌≡◌, ℕ, zero, suc, ◌<◌, ◌≤◌, Bool, true, false, not, ◌&&◌, List, [], ◌∷◌, ◌++◌, length, ◌⊎◌, inl, inr, arith, subst, refl, sym, ◌∙◌, ap}
+use Rattle.std.proofs.Common.{◌≡◌, ℕ, zero, suc, ◌<◌, ◌≤◌, Bool, true, false, not, ◌&&◌, List, [], ◌∷◌, ◌++◌, length, ◌⊎◌, inl}
+use Rattle.std.proofs.Common.{inr, arith, subst, refl, sym, ◌∙◌, ap}
 use Rattle.std.specs.Prelude.{slice_get, slice_set, slice_index_or, Option, Some, None, is_some, if◌then◌else◌}
 use Rattle.std.proofs.lemmas.Bool.Decides.{nat_tests}
 use Rattle.std.proofs.lemmas.List.{length-set}
@@ -55,26 +56,40 @@ module _ {V : Type 0} (n i : ℕ) (b : Ballot) (own : V) where
   state_kept (m ∷ ms) =
       let k = state_kept ms in
       let l = told_keeps (state ms) m in
-      record { index = l.index ∙ k.index; ballot = l.ballot ∙ k.ballot; own = l.own ∙ k.own; heard = l.heard ∙ k.heard; acked = l.acked ∙ k.acked }
+      record {
+        index = l.index ∙ k.index;
+        ballot = l.ballot ∙ k.ballot;
+        own = l.own ∙ k.own;
+        heard = l.heard ∙ k.heard;
+        acked =
+            l.acked ∙ k.acked;
+      }
 
 -- what each replica's first promise carries, as a function
 module _ {V : Type 0} (n : ℕ) where
   -- the best value so far is the highest that a first promise carried
   abbrev pub IsBest : (ℕ → Option (Option (Ballot × V))) → Option (Ballot × V) → Type 0
   IsBest F None = (r : ℕ) (c : Ballot) (x : V) → r < n → F r ≡ Some (Some (c, x)) → ⊥
-  IsBest F (Some y) = (r : ℕ) × (r < n) × (F r ≡ Some (Some y)) × ((q : ℕ) (c : Ballot) (x : V) → q < n → F q ≡ Some (Some (c, x)) → rank c ≤ rank y.0)
+  IsBest F (Some y) = (r : ℕ) × (r < n) × (F r ≡ Some (Some y)) × ((q : ℕ) (c : Ballot) (x : V) → q < n →
+      F q ≡ Some (Some (c, x)) → rank c ≤ rank y.0)
 
   -- the marks and the best value are those of the messages
   pub record IsTracked (F : ℕ → Option (Option (Ballot × V))) (p : Proposing V) : Type 0 where
     pub heard : (r : ℕ) → r < n → slice_get p.heard r ≡ Some (is_some (F r))
     pub best : IsBest F p.best
 
-  pub best-cong : (F G : ℕ → Option (Option (Ballot × V))) → ((r : ℕ) → r < n → G r ≡ F r) → (best : Option (Ballot × V)) → IsBest F best → IsBest G best
+  pub best-cong : (F G : ℕ → Option (Option (Ballot × V))) → ((r : ℕ) → r < n → G r ≡ F r) → (best : Option (Ballot × V)) →
+      IsBest F best → IsBest G best
   best-cong F G e None h = λ r c x lt k. h r c x lt (sym (e r lt) ∙ k)
   best-cong F G e (Some y) h = (h.0, h.1, e h.0 h.1 ∙ h.2, λ q c x lt k. h.3 q c x lt (sym (e q lt) ∙ k))
 
-  pub tracked-cong : (F G : ℕ → Option (Option (Ballot × V))) → ((r : ℕ) → r < n → G r ≡ F r) → (p : Proposing V) → IsTracked F p → IsTracked G p
-  tracked-cong F G e p h = record { heard = λ r lt. h.heard r lt ∙ ap (λ o. Some (is_some o)) (sym (e r lt)); best = best-cong F G e p.best h.best }
+  pub tracked-cong : (F G : ℕ → Option (Option (Ballot × V))) → ((r : ℕ) → r < n → G r ≡ F r) → (p : Proposing V) →
+      IsTracked F p → IsTracked G p
+  tracked-cong F G e p h = record {
+    heard = λ r lt. h.heard r lt ∙ ap (λ o. Some (is_some o)) (sym (e r lt));
+    best =
+        best-cong F G e p.best h.best;
+  }
 
   -- one more replica promises
   pub record IsAdded (F G : ℕ → Option (Option (Ballot × V))) (q : ℕ) (a : Option (Ballot × V)) : Type 0 where
@@ -98,10 +113,16 @@ module _ {V : Type 0} (n : ℕ) where
       | inr other ↦ s.others r (λ e. other e refl) ∙ k
     ]
 
-  pub best_next : (F G : ℕ → Option (Option (Ballot × V))) (q : ℕ) (a best : Option (Ballot × V)) → IsAdded F G q a → IsBest F best → IsBest G (better best a)
+  pub best_next : (F G : ℕ → Option (Option (Ballot × V))) (q : ℕ) (a best : Option (Ballot × V)) → IsAdded F G q a →
+      IsBest F best → IsBest G (better best a)
   best_next F G q None None s h = λ r c x lt k. elim (new_or_old F G q None s r c x k) [ inl e ↦ cc | inr old ↦ h r c x lt old ]
-  best_next F G q None (Some y) s h =
-      (h.0, h.1, still F G q None s h.0 y h.2, λ r c x lt k. elim (new_or_old F G q None s r c x k) [ inl e ↦ absurd (cc) | inr old ↦ h.3 r c x lt old ])
+  best_next F G q None (Some y) s h = (
+    h.0,
+    h.1,
+    still F G q None s h.0 y h.2,
+    λ r c x lt k. elim (new_or_old F G q None s r c x k)
+        [ inl e ↦ absurd (cc) | inr old ↦ h.3 r c x lt old ],
+  )
   best_next F G q (Some z) None s h = (
     q,
     s.below,

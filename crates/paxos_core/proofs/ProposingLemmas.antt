@@ -29,7 +29,8 @@ module _ {V : Type 0} where
       (grind (arith, nat_tests), grind (arith, nat_tests))
 
   -- nothing changes what a promised proposer proposes
-  pub promised_stays : (p : Proposing V) (m : Message V) → is_promised p ≡ true → (is_promised (told p m) ≡ true) × (value_of (told p m) ≡ value_of p)
+  pub promised_stays : (p : Proposing V) (m : Message V) → is_promised p ≡ true →
+      (is_promised (told p m) ≡ true) × (value_of (told p m) ≡ value_of p)
   promised_stays p (Ask i b) e = (e, refl)
   promised_stays p (Put i b v) e = (e, refl)
   promised_stays p (Nack r i b) e = (e, refl)
@@ -51,7 +52,8 @@ module _ {V : Type 0} where
       go false f = (rw f e, rw f refl)
 
   -- the better of two reaches what either reaches
-  pub better_reaches : (best accepted : Option (Ballot × V)) (c : ℕ) → Reaches best c ⊎ Reaches accepted c → Reaches (better best accepted) c
+  pub better_reaches : (best accepted : Option (Ballot × V)) (c : ℕ) → Reaches best c ⊎ Reaches accepted c →
+      Reaches (better best accepted) c
   better_reaches None None c h = elim h [ inl k ↦ k | inr k ↦ k ]
   better_reaches (Some x) None c h = elim h [ inl k ↦ k | inr k ↦ absurd k ]
   better_reaches None (Some y) c h = elim h [ inl k ↦ absurd k | inr k ↦ k ]
@@ -62,7 +64,8 @@ module _ {V : Type 0} where
       go false e = let le : rank y.0 ≤ rank x.0 = grind (arith, nat_tests) in rw e (elim h [ inl k ↦ k | inr k ↦ omega arith ])
 
   -- the better of two votes is a vote
-  pub better_is_vote : (w : World V) (i b : ℕ) (best accepted : Option (Ballot × V)) → IsSomeVote w i b best → IsSomeVote w i b accepted → IsSomeVote w i b (better best accepted)
+  pub better_is_vote : (w : World V) (i b : ℕ) (best accepted : Option (Ballot × V)) → IsSomeVote w i b best →
+      IsSomeVote w i b accepted → IsSomeVote w i b (better best accepted)
   better_is_vote w i b None None h k = tt
   better_is_vote w i b (Some x) None h k = h
   better_is_vote w i b None (Some y) h k = k

@@ -1,5 +1,6 @@
 -- A proposer follows its messages, whole lists of them.
-use Rattle.std.proofs.Common.{◌≡◌, ℕ, ◌<◌, Bool, true, false, not, ◌&&◌, List, ◌∷◌, length, inl, inr, arith, subst, refl, sym, ◌∙◌, ap}
+use Rattle.std.proofs.Common.{◌≡◌, ℕ, ◌<◌, Bool, true, false, not, ◌&&◌, List, ◌∷◌, length, inl, inr, arith, subst, refl, sym}
+use Rattle.std.proofs.Common.{◌∙◌, ap}
 use Rattle.std.specs.Prelude.{slice_get, slice_set, slice_index_or, Option, Some, None, is_some, ◌==◌}
 use Rattle.std.proofs.lemmas.Bool.Decides.{nat_tests}
 use Rattle.std.proofs.lemmas.List.{length-replicate}
@@ -12,7 +13,8 @@ use Rattle.paxos_core.specs.Messages.{carried, first_of, first_carried}
 use Rattle.paxos_core.proofs.AtAcceptor.{same_place}
 use Rattle.paxos_core.proofs.Acceptance.{same_number}
 use Rattle.paxos_core.proofs.ProposingLemmas.{and_true, not_true, is_for_means}
-use Rattle.paxos_core.proofs.MessagesLemmas.{state, state_kept, IsTracked, tracked-cong, IsAdded, best_next, mark_here, mark_there, unmarked, marked, not_is, is_none_of}
+use Rattle.paxos_core.proofs.MessagesLemmas.{state, state_kept, IsTracked, tracked-cong, IsAdded, best_next, mark_here}
+use Rattle.paxos_core.proofs.MessagesLemmas.{mark_there, unmarked, marked, not_is, is_none_of}
 
 pub first_of-None : {X : Type 0} (o : Option X) → first_of o None ≡ o
 first_of-None None = refl
@@ -84,17 +86,23 @@ module _ {V : Type 0} (n i : ℕ) (b : Ballot) (own : V) where
   is_for-is ms j c = let e = index_is ms in let f = ballot_is ms in
       ap (λ k. (j == k) && (rank c == rank (at ms).ballot)) e ∙ ap (λ k. (j == i) && (rank c == rank k)) f
 
-  pub tracked_next : (ms : List (Message V)) (m : Message V) → is_promised (at ms) ≡ false → IsTracked n (promises ms) (at ms) → IsTracked n (promises (m ∷ ms)) (told (at ms) m)
-  tracked_next ms (Ask j c) waits t = tracked-cong n (promises ms) (promises (Ask j c ∷ ms)) (λ r lt. first_of-None (promises ms r)) (at ms) t
-  tracked_next ms (Put j c v) waits t = tracked-cong n (promises ms) (promises (Put j c v ∷ ms)) (λ r lt. first_of-None (promises ms r)) (at ms) t
-  tracked_next ms (Nack q j c) waits t = tracked-cong n (promises ms) (promises (Nack q j c ∷ ms)) (λ r lt. first_of-None (promises ms r)) (at ms) t
+  pub tracked_next : (ms : List (Message V)) (m : Message V) → is_promised (at ms) ≡ false →
+      IsTracked n (promises ms) (at ms) → IsTracked n (promises (m ∷ ms)) (told (at ms) m)
+  tracked_next ms (Ask j c) waits t =
+      tracked-cong n (promises ms) (promises (Ask j c ∷ ms)) (λ r lt. first_of-None (promises ms r)) (at ms) t
+  tracked_next ms (Put j c v) waits t =
+      tracked-cong n (promises ms) (promises (Put j c v ∷ ms)) (λ r lt. first_of-None (promises ms r)) (at ms) t
+  tracked_next ms (Nack q j c) waits t =
+      tracked-cong n (promises ms) (promises (Nack q j c ∷ ms)) (λ r lt. first_of-None (promises ms r)) (at ms) t
   tracked_next ms (Ack q j c) waits t =
-      let unmoved : told (at ms) (Ack q j c) ≡ at ms = let no_more = and_false (is_for (at ms) j c) in rw (waits, no_more) refl in
+      let unmoved : told (at ms) (Ack q j c) ≡ at ms = let no_more = and_false (is_for (at ms) j c) in
+      rw (waits, no_more) refl in
       subst (λ p. IsTracked n (promises (Ack q j c ∷ ms)) p) (sym unmoved)
       (tracked-cong n (promises ms) (promises (Ack q j c ∷ ms)) (λ r lt. first_of-None (promises ms r)) (at ms) t)
   tracked_next ms (Promise q j c a) waits t = go (is_for (at ms) j c && (is_new (at ms) q && not (is_promised (at ms)))) refl
     where
-      go : (u : Bool) → (is_for (at ms) j c && (is_new (at ms) q && not (is_promised (at ms)))) ≡ u → IsTracked n (promises (Promise q j c a ∷ ms)) (told (at ms) (Promise q j c a))
+      go : (u : Bool) → (is_for (at ms) j c && (is_new (at ms) q && not (is_promised (at ms)))) ≡ u →
+          IsTracked n (promises (Promise q j c a ∷ ms)) (told (at ms) (Promise q j c a))
       go true e =
           let parts = and_true (is_for (at ms) j c) (is_new (at ms) q && not (is_promised (at ms))) e in
           let rest = and_true (is_new (at ms) q) (not (is_promised (at ms))) parts.1 in
@@ -114,19 +122,23 @@ module _ {V : Type 0} (n i : ℕ) (b : Ballot) (own : V) where
             below = below;
             none = none;
             here = ap (λ o. first_of o (carried i b q (Promise q j c a))) none ∙ carries;
-            others = λ r ne. ap (λ o. first_of (promises ms r) o) (carried_there i b q j c a r ne) ∙ first_of-None (promises ms r);
+            others = λ r ne. ap (λ o. first_of (promises ms r) o) (carried_there i b q j c a r ne) ∙ first_of-None
+                (promises ms r);
           } in
           rw e
           (record {
             heard = λ r lt. elim (same_place r q 0 0) [
-              | inl same ↦ subst (λ r. slice_get (slice_set (at ms).heard q true) r ≡ Some (is_some (promises (Promise q j c a ∷ ms) r))) (sym same.0)
+              | inl same ↦ subst (λ r. slice_get (slice_set (at ms).heard q true) r ≡ Some
+                  (is_some (promises (Promise q j c a ∷ ms) r))) (sym same.0)
                   (mark_here (at ms).heard q in_marks ∙ ap (λ o. Some (is_some o)) (sym added.here))
-              | inr other ↦ mark_there (at ms).heard q r (λ e. other e refl) ∙ t.heard r lt ∙ ap (λ o. Some (is_some o)) (sym (added.others r (λ e. other e refl)))
+              | inr other ↦ mark_there (at ms).heard q r (λ e. other e refl) ∙ t.heard r lt ∙ ap (λ o. Some (is_some o))
+                  (sym (added.others r (λ e. other e refl)))
             ];
             best = best_next n (promises ms) (promises (Promise q j c a ∷ ms)) q a (at ms).best added t.best;
           })
       go false e =
-          rw e (tracked-cong n (promises ms) (promises (Promise q j c a ∷ ms)) (λ r lt. unmoved r lt (is_for (at ms) j c) refl) (at ms) t)
+          rw e (tracked-cong n (promises ms) (promises (Promise q j c a ∷ ms)) (λ r lt. unmoved r lt (is_for (at ms) j c) refl)
+          (at ms) t)
         where
           unmoved : (r : ℕ) → r < n → (u : Bool) → is_for (at ms) j c ≡ u → promises (Promise q j c a ∷ ms) r ≡ promises ms r
           unmoved r lt false f =
@@ -142,8 +154,10 @@ module _ {V : Type 0} (n i : ℕ) (b : Ballot) (own : V) where
                     let mark = marked (at ms).heard q in_marks (not_is (slice_index_or (at ms).heard q true) old) in
                     let both : Some (is_some (promises ms q)) ≡ Some true = sym (t.heard q (omega arith)) ∙ mark in
                     let there : is_some (promises ms q) ≡ true = cc in
-                    first_of-some (promises ms r) (carried i b r (Promise q j c a)) (subst (λ r. is_some (promises ms r) ≡ true) (sym eq) there)
-                | inr other ↦ ap (λ o. first_of (promises ms r) o) (carried_there i b q j c a r (λ e. other e refl)) ∙ first_of-None (promises ms r)
+                    first_of-some (promises ms r) (carried i b r (Promise q j c a))
+                    (subst (λ r. is_some (promises ms r) ≡ true) (sym eq) there)
+                | inr other ↦ ap (λ o. first_of (promises ms r) o) (carried_there i b q j c a r (λ e. other e refl)) ∙
+                    first_of-None (promises ms r)
               ]
             where
               heard_before : (x : Bool) → is_new (at ms) q ≡ x → is_for (at ms) j c ≡ true → is_new (at ms) q ≡ false

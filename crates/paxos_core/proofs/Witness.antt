@@ -30,7 +30,8 @@ module _ {V : Type 0} (v : V) where
       go true = omega arith
       go false = omega arith
 
-  pub schedule_voted : (r : ℕ) → slice_get (true ∷ true ∷ false ∷ []) r ≡ Some true → HasVote (run 3 schedule start).votes r 0 (rank first_ballot) v
+  pub schedule_voted : (r : ℕ) → slice_get (true ∷ true ∷ false ∷ []) r ≡ Some true →
+      HasVote (run 3 schedule start).votes r 0 (rank first_ballot) v
   schedule_voted zero h = inr (inl (record { replica = refl; index = refl; ballot = refl; value = refl }))
   schedule_voted (suc zero) h = inl (record { replica = refl; index = refl; ballot = refl; value = refl })
   schedule_voted (suc (suc zero)) h = cc
@@ -41,5 +42,14 @@ module _ {V : Type 0} (v : V) where
       record {
         events = schedule;
         own = schedule_own;
-        chosen = (rank first_ballot, record { marks = true ∷ true ∷ false ∷ []; count = refl; most = refl; each = schedule_voted });
+        chosen = (
+          rank first_ballot,
+          record {
+            marks = true ∷ true ∷ false ∷ [];
+            count = refl;
+            most = refl;
+            each =
+                schedule_voted;
+          },
+        );
       }

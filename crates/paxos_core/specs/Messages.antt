@@ -1,5 +1,6 @@
 -- What a list of messages, the newest first, tells a proposer: said of the messages alone.
-use Rattle.std.specs.Prelude.{◌≡◌, ℕ, ◌<◌, ◌≤◌, Bool, true, false, ◌&&◌, ◌==◌, ◌⊎◌, if◌then◌else◌, List, [], ◌∷◌, ◌++◌, Option, Some, None, IsSome}
+use Rattle.std.specs.Prelude.{◌≡◌, ℕ, ◌<◌, ◌≤◌, Bool, true, false, ◌&&◌, ◌==◌, ◌⊎◌, if◌then◌else◌, List, [], ◌∷◌, ◌++◌, Option}
+use Rattle.std.specs.Prelude.{Some, None, IsSome}
 use Rattle.std.specs.List.{list_any}
 use Rattle.paxos_core.specs.declared.ballot.Ballot.{Ballot}
 use Rattle.paxos_core.specs.declared.message.Message.{Message}
@@ -70,7 +71,8 @@ module _ {V : Type 0} where
     pub ballot : Ballot
     pub below : replica < n
     pub carries : first_carried i b messages replica ≡ Some (Some (ballot, v))
-    pub highest : (r : ℕ) (c : Ballot) (x : V) → r < n → first_carried i b messages r ≡ Some (Some (c, x)) → rank c ≤ rank ballot
+    pub highest : (r : ℕ) (c : Ballot) (x : V) → r < n → first_carried i b messages r ≡ Some (Some (c, x)) →
+        rank c ≤ rank ballot
 
   -- no replica's first promise carries a value
   abbrev pub CarriesNone : ℕ → ℕ → Ballot → List (Message V) → Type 0

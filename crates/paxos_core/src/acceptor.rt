@@ -3,7 +3,7 @@
 ghost use Rattle.std.specs.Prelude.{◌≡◌, ◌≢◌, ℕ, ◌<◌, ◌↔◌, if◌then◌else◌, IsNone, IsSomeAnd, MatchOption, IfOk, OnOk, OnErr};
 
 use crate::ballot::Ballot;
-use crate::message::Message;
+use crate::message::{Message, accepted_copy};
 use nfs3_types::{Copies, NoMemory};
 use std::alloc::Global;
 use std::collections::BTreeMap;
@@ -48,12 +48,14 @@ impl<V: Copies> Acceptor<V> {
         alloc: Global,
         message: &Message<V>,
     ) -> Result<Option<Message<V>>, NoMemory>
-        ensures answer { IfOk result (λ reply. reply ≡ answer (replica_of self.old) (standing_of self.old) message.now) }
+        ensures answer { IfOk result
+            (λ reply. reply ≡ answer (replica_of self.old) (standing_of self.old) message.now) }
         ensures none { IfOk result (λ reply. IsNone reply ↔ IsNone (asked_of message.now)) }
         ensures nack { let promised = (standing_of self.old (index_of message.now)).promised in
             IfOk result (λ reply. IsNack reply ↔ IsSomeAnd (asked_of message.now) (λ ballot. rank ballot < rank promised)) }
 
-        ensures keeps { OnOk result ((i : ℕ) → standing_of self.new i ≡ with_message (standing_of self.old) message.now i) }
+        ensures keeps { OnOk result ((i : ℕ) →
+            standing_of self.new i ≡ with_message (standing_of self.old) message.now i) }
         ensures stays { OnErr result ((i : ℕ) → standing_of self.new i ≡ standing_of self.old i) }
         ensures replica { replica_of self.new ≡ replica_of self.old }
     {
@@ -70,7 +72,8 @@ impl<V: Copies> Acceptor<V> {
 
     /// What it keeps at the index, or `None` where it promised and accepted nothing there.
     pub fn standing(&self, index: u64) -> Option<&Standing<V>>
-        ensures { MatchOption result (standing_of self.now index ≡ blank) (λ standing. standing.now ≡ standing_of self.now index) }
+        ensures { MatchOption result (standing_of self.now index ≡ blank)
+            (λ standing. standing.now ≡ standing_of self.now index) }
     {
         self.rows.get(&index)
     }
@@ -96,7 +99,7 @@ impl<V: Copies> Acceptor<V> {
         ensures { IfOk result (λ accepted. accepted ≡ (standing_of self.now index).accepted) }
     {
         match self.standing(index) {
-            Some(standing) => copy_of(alloc, &standing.accepted),
+            Some(standing) => accepted_copy(alloc, &standing.accepted),
             None => Ok(None),
         }
     }
@@ -107,8 +110,11 @@ impl<V: Copies> Acceptor<V> {
         index: u64,
         ballot: Ballot,
     ) -> Result<Option<Message<V>>, NoMemory>
-        ensures answer { IfOk result (λ reply. reply ≡ answer (replica_of self.old) (standing_of self.old) (Ask index ballot)) }
-        ensures keeps { OnOk result ((i : ℕ) → standing_of self.new i ≡ with_message (standing_of self.old) (Ask index ballot) i) }
+        ensures answer { IfOk result
+            (λ reply. reply ≡ answer (replica_of self.old) (standing_of self.old)
+            (Ask index ballot)) }
+        ensures keeps { OnOk result ((i : ℕ) →
+            standing_of self.new i ≡ with_message (standing_of self.old) (Ask index ballot) i) }
         ensures stays { OnErr result ((i : ℕ) → standing_of self.new i ≡ standing_of self.old i) }
         ensures replica { replica_of self.new ≡ replica_of self.old }
     {
@@ -127,8 +133,13 @@ impl<V: Copies> Acceptor<V> {
 
     /// Promises the ballot at the index, and keeps what it accepted there.
     fn promise(&mut self, index: u64, ballot: Ballot) -> Result<(), NoMemory>
-        ensures here { OnOk result (standing_of self.new index ≡ record (standing_of self.old index) { promised = ballot }) }
-        ensures others { OnOk result ((i : ℕ) → i ≢ index → standing_of self.new i ≡ standing_of self.old i) }
+        ensures here { OnOk result
+            (standing_of self.new index ≡ record (standing_of self.old index) {
+              promised =
+                  ballot;
+            }) }
+        ensures others { OnOk result ((i : ℕ) → i ≢ index →
+            standing_of self.new i ≡ standing_of self.old i) }
         ensures stays { OnErr result ((i : ℕ) → standing_of self.new i ≡ standing_of self.old i) }
         ensures replica { replica_of self.new ≡ replica_of self.old }
     {
@@ -153,8 +164,12 @@ impl<V: Copies> Acceptor<V> {
         ballot: Ballot,
         value: &V,
     ) -> Result<Option<Message<V>>, NoMemory>
-        ensures answer { IfOk result (λ reply. reply ≡ answer (replica_of self.old) (standing_of self.old) (Put index ballot value.now)) }
-        ensures keeps { OnOk result ((i : ℕ) → standing_of self.new i ≡ with_message (standing_of self.old) (Put index ballot value.now) i) }
+        ensures answer { IfOk result
+            (λ reply. reply ≡ answer (replica_of self.old) (standing_of self.old)
+            (Put index ballot value.now)) }
+        ensures keeps { OnOk result ((i : ℕ) →
+            standing_of self.new i ≡ with_message (standing_of self.old)
+            (Put index ballot value.now) i) }
         ensures stays { OnErr result ((i : ℕ) → standing_of self.new i ≡ standing_of self.old i) }
         ensures replica { replica_of self.new ≡ replica_of self.old }
     {
@@ -174,21 +189,5 @@ impl<V: Copies> Acceptor<V> {
             index,
             ballot,
         }))
-    }
-}
-
-/// A copy of an accepted value.
-pub(crate) fn copy_of<V: Copies>(
-    alloc: Global,
-    accepted: &Option<(Ballot, V)>,
-) -> Result<Option<(Ballot, V)>, NoMemory>
-    ensures { IfOk result (λ copy. copy ≡ accepted.now) }
-{
-    match accepted {
-        Some((ballot, value)) => {
-            let value = value.copy(alloc)?;
-            Ok(Some((*ballot, value)))
-        }
-        None => Ok(None),
     }
 }

@@ -15,7 +15,8 @@ use crate::message::Message;
 /// Whatever is lost, repeated, reordered or restarted among `n` replicas, at most one value is chosen at
 /// an index, and it stays chosen, as long as no two proposers of an index share a ballot.
 pub fn agreement<V>()
-    ensures agree { (n i : ℕ) (x y : V) (events more : List (Event V)) → HasOwnBallots (events ++ more) →
+    ensures agree { (n i : ℕ) (x y : V) (events more : List (Event V)) →
+        HasOwnBallots (events ++ more) →
         IsChosen n (votes_after n events) i x → IsChosen n (votes_after n (events ++ more)) i y → x ≡ y }
     ensures stays { (n i : ℕ) (x : V) (events more : List (Event V)) →
         IsChosen n (votes_after n events) i x → IsChosen n (votes_after n (events ++ more)) i x }
@@ -36,10 +37,12 @@ pub fn proposals<V>()
         IsStage n i b messages (stage_of (told_all (begins n i b own) messages)) }
 
     // The value up to the majority-th promise, which may be the last message, and then for good.
-    ensures value { (n i : ℕ) (b : Ballot) (own : V) (last : Message V) (messages : List (Message V)) →
+    ensures value { (n i : ℕ) (b : Ballot) (own : V) (last : Message V)
+        (messages : List (Message V)) →
         (IsMajority n (HasPromised i b messages) → ⊥) →
         IsPreferred n i b own (last ∷ messages) (value_of (told_all (begins n i b own) (last ∷ messages))) }
-    ensures settled { (n i : ℕ) (b : Ballot) (own : V) (later messages : List (Message V)) → IsMajority n (HasPromised i b messages) →
+    ensures settled { (n i : ℕ) (b : Ballot) (own : V) (later messages : List (Message V)) →
+        IsMajority n (HasPromised i b messages) →
         value_of (told_all (begins n i b own) (later ++ messages)) ≡ value_of (told_all (begins n i b own) messages) }
 {}
 

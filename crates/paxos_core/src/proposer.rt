@@ -5,9 +5,8 @@ ghost use Rattle.paxos_core.specs.Majority.{is_majority};
 ghost use Rattle.paxos_core.specs.Proposing.{begins, told, stage_of, value_of, better};
 ghost use Rattle.paxos_core.specs.declared.message.Message.TheVariants.{Promise, Ack};
 
-use crate::acceptor::copy_of;
 use crate::ballot::Ballot;
-use crate::message::Message;
+use crate::message::{Message, accepted_copy};
 use nfs3_types::{Copies, NoMemory};
 use std::alloc::Global;
 use std::marker::Model;
@@ -39,7 +38,15 @@ impl<V> Model for Proposer<V> {
 
     ghost Value = { Proposing V };
 
-    ghost view = { λ p. record { index = p.index; ballot = p.ballot; own = p.own; best = p.best; heard = p.heard.items; acked = p.acked.items } };
+    ghost view = { λ p. record {
+      index = p.index;
+      ballot = p.ballot;
+      own = p.own;
+      best =
+          p.best;
+      heard = p.heard.items;
+      acked = p.acked.items;
+    } };
 }
 
 impl<V: Copies> Proposer<V> {
@@ -120,7 +127,8 @@ impl<V: Copies> Proposer<V> {
         ballot: Ballot,
         accepted: &Option<(Ballot, V)>,
     ) -> Result<(), NoMemory>
-        ensures told { OnOk result (self.new ≡ told self.old (Promise replica index ballot accepted.now)) }
+        ensures told { OnOk result
+            (self.new ≡ told self.old (Promise replica index ballot accepted.now)) }
         ensures stays { OnErr result (self.new ≡ self.old) }
     {
         let is_heard = self.heard.get(replica as usize).copied().unwrap_or(true);
@@ -132,7 +140,7 @@ impl<V: Copies> Proposer<V> {
             return Ok(());
         }
         if is_better(accepted, &self.best) {
-            self.best = copy_of(alloc, accepted)?;
+            self.best = accepted_copy(alloc, accepted)?;
         }
         self.heard[replica as usize] = true;
         Ok(())

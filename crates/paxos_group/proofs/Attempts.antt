@@ -1,12 +1,13 @@
 -- How an attempt begins and ends.
-use Rattle.std.proofs.Common.{◌≡◌, ℕ, zero, suc, ◌+◌, ◌*◌, ◌<◌, ◌≤◌, Bool, true, false, List, [], ◌∷◌, ◌++◌, length, ◌⊎◌, inl, inr, arith, subst, refl, sym, ◌∙◌, ap, length-append}
+use Rattle.std.proofs.Common.{◌≡◌, ℕ, zero, suc, ◌+◌, ◌*◌, ◌<◌, ◌≤◌, Bool, true, false, List, [], ◌∷◌, ◌++◌, length, ◌⊎◌, inl}
+use Rattle.std.proofs.Common.{inr, arith, subst, refl, sym, ◌∙◌, ap, length-append}
 use Rattle.std.specs.Prelude.{slice_get, Option, Some, None, ◌==◌, nat_lt, if◌then◌else◌}
 use Rattle.std.proofs.lemmas.Bool.Decides.{nat_tests}
 use Rattle.std.proofs.lemmas.List.{length-replicate, append-nil}
 use Rattle.slab.specs.Slab.{Slab, slab_len}
 use Rattle.outside.specs.declared.weather.MessageKind.{MessageKind}
 use Rattle.outside.specs.declared.weather.MessageKind.TheVariants as kind
-use Rattle.outside.specs.Count.{Rose}
+use Rattle.nfs3_types.specs.Count.{Rose}
 use Rattle.outside.specs.Weather.{is_heard}
 use Rattle.paxos_core.specs.declared.ballot.Ballot.{Ballot}
 use Rattle.paxos_core.specs.declared.message.Message.{Message}
@@ -22,7 +23,8 @@ use Rattle.paxos_group.specs.declared.net.Net.{Net}
 use Rattle.paxos_group.specs.declared.net.TheConstants.{MOST_HELD}
 use Rattle.paxos_group.specs.Fates.{IsStill}
 use Rattle.paxos_group.specs.Scene.{Scene, kept_at, number_at}
-use Rattle.paxos_group.specs.Sound.{Attempt, ballot_of, IsReached, IsPresent, IsProposed, IsSent, IsNotLost, Keeps, PutOk, ProposerOk, Rests, Stands}
+use Rattle.paxos_group.specs.Sound.{Attempt, ballot_of, IsReached, IsPresent, IsProposed, IsSent, IsNotLost, Keeps, PutOk}
+use Rattle.paxos_group.specs.Sound.{ProposerOk, Rests, Stands}
 use Rattle.paxos_group.specs.Steps.{Goes, IsAt, Doubts, StaysCalm, IsGroupSize}
 use Rattle.paxos_group.specs.Formed.{IsFormed, list_of}
 use Rattle.paxos_group.proofs.Doubt.{chosen_means}
@@ -48,7 +50,8 @@ module _ {V : Type 0} where
   reached_along : (x y : Attempt V) (b : Ballot) → Follows x y → IsReached x b → IsReached y b
   reached_along x y b f h = let le = f.last in omega arith
 
-  proposed_along : (x y : Attempt V) (i : ℕ) (accepted : Option (Ballot × V)) → Follows x y → IsProposed x i accepted → IsProposed y i accepted
+  proposed_along : (x y : Attempt V) (i : ℕ) (accepted : Option (Ballot × V)) → Follows x y → IsProposed x i accepted →
+      IsProposed y i accepted
   proposed_along x y i None f h = tt
   proposed_along x y i (Some a) f h = f.commands i a.1 h
 
@@ -57,12 +60,20 @@ module _ {V : Type 0} where
   not_present x y i b f h present = let lt = f.earlier in let same = present.1 in omega arith
 
   put_reached : (x : Attempt V) (i : ℕ) (b : Ballot) (v : V) → ((i : ℕ) → x.tops i ≤ x.last) → PutOk x i b v → IsReached x b
-  put_reached x i b v tops h = let is : rank b ≡ rank (ballot_of b.round) = ap (λ b. rank b) h.ballot in let top = h.top in let most = tops i in omega arith
+  put_reached x i b v tops h = let is : rank b ≡ rank (ballot_of b.round) = ap (λ b. rank b) h.ballot in let top = h.top in
+      let most = tops i in omega arith
 
-  sent_follows : (x y : Attempt V) (kept : ℕ → ℕ → Standing V) (r : ℕ) (m : Message V) → Follows x y → IsSent x kept r m → IsSent y kept r m
+  sent_follows : (x y : Attempt V) (kept : ℕ → ℕ → Standing V) (r : ℕ) (m : Message V) → Follows x y → IsSent x kept r m →
+      IsSent y kept r m
   sent_follows x y kept r (Ask i b) f h = reached_along x y b f h
-  sent_follows x y kept r (Promise q i b a) f h = record { from = h.from; reached = reached_along x y b f h.reached; proposed = proposed_along x y i a f h.proposed }
-  sent_follows x y kept r (Put i b v) f h = let a = h.top in let c = f.tops i in record { ballot = h.ballot; top = omega arith; command = f.commands i v h.command }
+  sent_follows x y kept r (Promise q i b a) f h = record {
+    from = h.from;
+    reached = reached_along x y b f h.reached;
+    proposed =
+        proposed_along x y i a f h.proposed;
+  }
+  sent_follows x y kept r (Put i b v) f h = let a = h.top in let c = f.tops i in
+      record { ballot = h.ballot; top = omega arith; command = f.commands i v h.command }
   sent_follows x y kept r (Ack q i b) f h = record {
     from = h.from;
     reached = reached_along x y b f h.reached;
@@ -71,21 +82,36 @@ module _ {V : Type 0} where
   }
   sent_follows x y kept r (Nack q i b) f h = tt
 
-  not_lost_follows : (x y : Attempt V) (kept : ℕ → ℕ → Standing V) (r : ℕ) (m : Message V) → ((i : ℕ) → x.tops i ≤ x.last) → Follows x y → IsSent x kept r m → IsNotLost y r m
+  not_lost_follows : (x y : Attempt V) (kept : ℕ → ℕ → Standing V) (r : ℕ) (m : Message V) → ((i : ℕ) → x.tops i ≤ x.last) →
+      Follows x y → IsSent x kept r m → IsNotLost y r m
   not_lost_follows x y kept r (Ask i b) tops f h = tt
   not_lost_follows x y kept r (Promise q i b a) tops f h = tt
   not_lost_follows x y kept r (Nack q i b) tops f h = tt
-  not_lost_follows x y kept r (Put i b v) tops f h = λ present. absurd (not_present x y i b f (put_reached x i b v tops h) present)
+  not_lost_follows x y kept r (Put i b v) tops f h =
+      λ present. absurd (not_present x y i b f (put_reached x i b v tops h) present)
   not_lost_follows x y kept r (Ack q i b) tops f h = λ present. absurd (not_present x y i b f h.reached present)
 
-  pub rests_follows : (x y : Attempt V) (count : ℕ) (numbers : ℕ → ℕ) (kept : ℕ → ℕ → Standing V) (held : Slab (Letter V)) → Follows x y →
-      ((i : ℕ) → i < y.index → IsMajority count (λ r. Keeps y kept r i)) → Rests x count numbers kept held → Rests y count numbers kept held
+  pub rests_follows : (x y : Attempt V) (count : ℕ) (numbers : ℕ → ℕ) (kept : ℕ → ℕ → Standing V) (held : Slab (Letter V)) →
+      Follows x y →
+      ((i : ℕ) → i < y.index → IsMajority count (λ r. Keeps y kept r i)) → Rests x count numbers kept held →
+      Rests y count numbers kept held
   rests_follows x y count numbers kept held f settled h = record {
     tops = f.bound;
     numbered = h.numbered;
-    standings = λ r i. let s = h.standings r i in record { promised = reached_along x y (kept r i).promised f s.promised; within = s.within; proposed = proposed_along x y i (kept r i).accepted f s.proposed };
+    standings = λ r i. let s = h.standings r i in
+        record {
+          promised = reached_along x y (kept r i).promised f s.promised;
+          within = s.within;
+          proposed =
+              proposed_along x y i (kept r i).accepted f s.proposed;
+        };
     letters = λ key l there. let ok = h.letters key l there in
-        record { replica = ok.replica; sent = sent_follows x y kept l.replica l.message f ok.sent; not_lost = not_lost_follows x y kept l.replica l.message h.tops f ok.sent };
+        record {
+          replica = ok.replica;
+          sent = sent_follows x y kept l.replica l.message f ok.sent;
+          not_lost =
+              not_lost_follows x y kept l.replica l.message h.tops f ok.sent;
+        };
     settled = settled;
   }
 
@@ -107,7 +133,7 @@ module _ {V : Type 0} where
     pub index : x.index ≡ length log
     pub is_next : x.round ≡ round
     pub commands : x.commands ≡ log ++ own ∷ []
-    pub silent : (r : ℕ) (k : MessageKind) → x.silent r k ≡ s.silent r k
+    pub silent : (r : ℕ) (k : MessageKind) → x.silent r k ≡ s.weather.silent r k
     pub size : IsGroupSize replicas
     pub count : s.count ≡ replicas
     pub within : slab_len s.held ≤ MOST_HELD
@@ -118,41 +144,53 @@ module _ {V : Type 0} where
   tops_there : (x : Attempt V) (i : ℕ) → (i ≡ x.index → ⊥) → (if i == x.index then x.round else x.tops i) ≡ x.tops i
   tops_there x i ne = let k : (i == x.index) ≡ false = grind (arith, nat_tests) in rw k refl
 
-  tops_cases : (x : Attempt V) (i : ℕ) → ((i ≡ x.index) × ((if i == x.index then x.round else x.tops i) ≡ x.round)) ⊎ ((i ≡ x.index → ⊥) × ((if i == x.index then x.round else x.tops i) ≡ x.tops i))
+  tops_cases : (x : Attempt V) (i : ℕ) →
+      ((i ≡ x.index) × ((if i == x.index then x.round else x.tops i) ≡ x.round)) ⊎
+      ((i ≡ x.index → ⊥) × ((if i == x.index then x.round else x.tops i) ≡ x.tops i))
   tops_cases x i = go (i == x.index) refl
     where
-      go : (t : Bool) → (i == x.index) ≡ t → ((i ≡ x.index) × ((if i == x.index then x.round else x.tops i) ≡ x.round)) ⊎ ((i ≡ x.index → ⊥) × ((if i == x.index then x.round else x.tops i) ≡ x.tops i))
+      go : (t : Bool) → (i == x.index) ≡ t →
+          ((i ≡ x.index) × ((if i == x.index then x.round else x.tops i) ≡ x.round)) ⊎
+          ((i ≡ x.index → ⊥) × ((if i == x.index then x.round else x.tops i) ≡ x.tops i))
       go true e = let k : i ≡ x.index = grind (arith, nat_tests) in inl (k, tops_here x i k)
       go false e = let k : i ≡ x.index → ⊥ = λ same. grind (arith, nat_tests) in inr (k, tops_there x i k)
 
-  pub begins_by : (s : Scene V) (net : Net V) (replicas : ℕ) (log : List V) (pending : Option V) (own : V) (round : ℕ) → IsFormed replicas net log pending round →
+  pub begins_by : (s : Scene V) (net : Net V) (replicas : ℕ) (log : List V) (pending : Option V) (own : V) (round : ℕ) →
+      IsFormed replicas net log pending round →
       ((i : ℕ) (v : V) → slice_get (log ++ list_of pending) i ≡ Some v → slice_get (log ++ own ∷ []) i ≡ Some v) →
-      s.count ≡ length net.acceptors.items → s.numbers ≡ number_at net.acceptors.items → s.kept ≡ kept_at net.acceptors.items → s.held ≡ net.held →
+      s.count ≡ length net.acceptors.items → s.numbers ≡ number_at net.acceptors.items → s.kept ≡ kept_at net.acceptors.items →
+      s.held ≡ net.held →
       s.proposing ≡ begins replicas (length log) (ballot_of round) own → (x : Attempt V) × Begun x s replicas log own round
   begins_by s net replicas log pending own round f more e1 e2 e3 e4 e5 =
       let x = f.x in
-      let y : Attempt V = next x log own s.silent in
+      let y : Attempt V = next x log own s.weather.silent in
       let follows : Follows x y = record {
         last = let lt = f.last in omega arith;
         earlier = f.last;
         commands = λ i v h. more i v (subst (λ l. slice_get l i ≡ Some v) f.commands h);
-        tops = λ i. let top = f.rests.tops i in let lt = f.last in elim (tops_cases x i) [ inl k ↦ let is = k.1 in omega arith | inr k ↦ let is = k.1 in omega arith ];
-        bound = λ i. let top = f.rests.tops i in let lt = f.last in elim (tops_cases x i) [ inl k ↦ let is = k.1 in omega arith | inr k ↦ let is = k.1 in omega arith ];
+        tops = λ i. let top = f.rests.tops i in let lt = f.last in
+            elim (tops_cases x i) [ inl k ↦ let is = k.1 in omega arith | inr k ↦ let is = k.1 in omega arith ];
+        bound = λ i. let top = f.rests.tops i in let lt = f.last in
+            elim (tops_cases x i) [ inl k ↦ let is = k.1 in omega arith | inr k ↦ let is = k.1 in omega arith ];
       } in
-      let settled : (i : ℕ) → i < y.index → IsMajority (length net.acceptors.items) (λ r. Keeps y (kept_at net.acceptors.items) r i) = λ i lt.
+      let settled : (i : ℕ) → i < y.index →
+      IsMajority (length net.acceptors.items) (λ r. Keeps y (kept_at net.acceptors.items) r i) = λ i lt.
       IsMajority-map (length net.acceptors.items) (λ r k. record {
         command = k.command;
         proposed = follows.commands i k.command k.proposed;
         accepted = k.accepted ∙ ap (λ t. Some (ballot_of t, k.command)) (sym (tops_there x i (λ e. omega arith)));
       }) (f.rests.settled i lt) in
-      let rests = rests_follows x y (length net.acceptors.items) (number_at net.acceptors.items) (kept_at net.acceptors.items) net.held follows settled f.rests in
+      let rests = rests_follows x y (length net.acceptors.items) (number_at net.acceptors.items) (kept_at net.acceptors.items)
+      net.held follows settled f.rests in
       let rests_s : Rests y s.count s.numbers s.kept s.held =
       subst (λ c. Rests y c s.numbers s.kept s.held) (sym e1)
       (subst (λ n. Rests y (length net.acceptors.items) n s.kept s.held) (sym e2)
       (subst (λ k. Rests y (length net.acceptors.items) (number_at net.acceptors.items) k s.held) (sym e3)
-      (subst (λ h. Rests y (length net.acceptors.items) (number_at net.acceptors.items) (kept_at net.acceptors.items) h) (sym e4) rests))) in
+      (subst (λ h. Rests y (length net.acceptors.items) (number_at net.acceptors.items) (kept_at net.acceptors.items) h)
+      (sym e4) rests))) in
       let count : s.count ≡ replicas = e1 ∙ f.count in
-      let last : slice_get (log ++ own ∷ []) x.index ≡ Some own = subst (λ i. slice_get (log ++ own ∷ []) i ≡ Some own) (sym f.index) (get_last log own) in
+      let last : slice_get (log ++ own ∷ []) x.index ≡ Some own =
+      subst (λ i. slice_get (log ++ own ∷ []) i ≡ Some own) (sym f.index) (get_last log own) in
       let first : ProposerOk y s.count s.kept (begins replicas (length log) (ballot_of round) own) = record {
         index = sym f.index;
         ballot = ap ballot_of (sym f.is_next);
@@ -184,11 +222,14 @@ module _ {V : Type 0} where
         },
       )
 
-  pub begin : (s : Scene V) (net : Net V) (replicas : ℕ) (log : List V) (own : V) (round : ℕ) → IsFormed replicas net log None round ⊎ IsFormed replicas net log (Some own) round →
-      s.count ≡ length net.acceptors.items → s.numbers ≡ number_at net.acceptors.items → s.kept ≡ kept_at net.acceptors.items → s.held ≡ net.held →
+  pub begin : (s : Scene V) (net : Net V) (replicas : ℕ) (log : List V) (own : V) (round : ℕ) →
+      IsFormed replicas net log None round ⊎ IsFormed replicas net log (Some own) round →
+      s.count ≡ length net.acceptors.items → s.numbers ≡ number_at net.acceptors.items → s.kept ≡ kept_at net.acceptors.items →
+      s.held ≡ net.held →
       s.proposing ≡ begins replicas (length log) (ballot_of round) own → (x : Attempt V) × Begun x s replicas log own round
   begin s net replicas log own round formed e1 e2 e3 e4 e5 = elim formed [
-    | inl f ↦ begins_by s net replicas log None own round f (λ i v h. get_append log (own ∷ []) i v (subst (λ l. slice_get l i ≡ Some v) (append-nil log) h)) e1 e2 e3 e4 e5
+    | inl f ↦ begins_by s net replicas log None own round f
+        (λ i v h. get_append log (own ∷ []) i v (subst (λ l. slice_get l i ≡ Some v) (append-nil log) h)) e1 e2 e3 e4 e5
     | inr f ↦ begins_by s net replicas log (Some own) own round f (λ i v h. h) e1 e2 e3 e4 e5
   ]
 
@@ -196,20 +237,33 @@ module _ {V : Type 0} where
   abbrev pub ended : Attempt V → ℕ → Attempt V
   ended x index = record x { index = index; round = x.round + 1 }
 
-  keeps_ended : (x : Attempt V) (index : ℕ) (kept : ℕ → ℕ → Standing V) (r i : ℕ) → Keeps x kept r i → Keeps (ended x index) kept r i
+  keeps_ended : (x : Attempt V) (index : ℕ) (kept : ℕ → ℕ → Standing V) (r i : ℕ) → Keeps x kept r i →
+      Keeps (ended x index) kept r i
   keeps_ended x index kept r i k = record { command = k.command; proposed = k.proposed; accepted = k.accepted }
 
-  pub rests_ended : (x : Attempt V) (s : Scene V) (index : ℕ) → Stands x s → ((i : ℕ) → i < index → IsMajority s.count (λ r. Keeps x s.kept r i)) → Rests (ended x index) s.count s.numbers s.kept s.held
+  pub rests_ended : (x : Attempt V) (s : Scene V) (index : ℕ) → Stands x s →
+      ((i : ℕ) → i < index → IsMajority s.count (λ r. Keeps x s.kept r i)) →
+      Rests (ended x index) s.count s.numbers s.kept s.held
   rests_ended x s index h settled =
       let same = h.last in
       rests_follows x (ended x index) s.count s.numbers s.kept s.held
-      (record { last = omega arith; earlier = omega arith; commands = λ i v k. k; tops = λ i. omega arith; bound = h.rests.tops })
+      (record {
+        last = omega arith;
+        earlier = omega arith;
+        commands = λ i v k. k;
+        tops = λ i. omega arith;
+        bound =
+            h.rests.tops;
+      })
       (λ i lt. IsMajority-map s.count (λ r k. keeps_ended x index s.kept r i k) (settled i lt))
       h.rests
 
-  formed_by : (x : Attempt V) (s : Scene V) (net : Net V) (replicas : ℕ) (log : List V) (pending : Option V) (round index : ℕ) → Stands x s → IsGroupSize replicas → s.count ≡ replicas → slab_len s.held ≤ MOST_HELD →
-      index ≡ length log → x.round ≡ round → x.commands ≡ log ++ list_of pending → ((i : ℕ) → i < index → IsMajority s.count (λ r. Keeps x s.kept r i)) →
-      s.count ≡ length net.acceptors.items → s.numbers ≡ number_at net.acceptors.items → s.kept ≡ kept_at net.acceptors.items → s.held ≡ net.held → IsFormed replicas net log pending (round + 1)
+  formed_by : (x : Attempt V) (s : Scene V) (net : Net V) (replicas : ℕ) (log : List V) (pending : Option V)
+      (round index : ℕ) → Stands x s → IsGroupSize replicas → s.count ≡ replicas → slab_len s.held ≤ MOST_HELD →
+      index ≡ length log → x.round ≡ round → x.commands ≡ log ++ list_of pending →
+      ((i : ℕ) → i < index → IsMajority s.count (λ r. Keeps x s.kept r i)) →
+      s.count ≡ length net.acceptors.items → s.numbers ≡ number_at net.acceptors.items → s.kept ≡ kept_at net.acceptors.items →
+      s.held ≡ net.held → IsFormed replicas net log pending (round + 1)
   formed_by x s net replicas log pending round index h size count within at is_next commands settled e1 e2 e3 e4 =
       let rests = rests_ended x s index h settled in
       let same = h.last in
@@ -230,34 +284,52 @@ module _ {V : Type 0} where
       }
 
   -- it is in doubt, or wanted memory
-  pub formed_pending : (x : Attempt V) (old new : Scene V) (net : Net V) (replicas : ℕ) (log : List V) (own : V) (round : ℕ) → Begun x old replicas log own round → Goes (IsAt (length log) (ballot_of round)) old new →
-      new.count ≡ length net.acceptors.items → new.numbers ≡ number_at net.acceptors.items → new.kept ≡ kept_at net.acceptors.items → new.held ≡ net.held → IsFormed replicas net log (Some own) (round + 1)
+  pub formed_pending : (x : Attempt V) (old new : Scene V) (net : Net V) (replicas : ℕ) (log : List V) (own : V) (round : ℕ) →
+      Begun x old replicas log own round → Goes (IsAt (length log) (ballot_of round)) old new →
+      new.count ≡ length net.acceptors.items → new.numbers ≡ number_at net.acceptors.items →
+      new.kept ≡ kept_at net.acceptors.items → new.held ≡ net.held → IsFormed replicas net log (Some own) (round + 1)
   formed_pending x old new net replicas log own round b goes e1 e2 e3 e4 =
       let h = goes.sound x b.stands b.at in
-      formed_by x new net replicas log (Some own) round x.index h b.size (goes.count ∙ b.count) (goes.within b.within) b.index b.is_next b.commands h.rests.settled e1 e2 e3 e4
+      formed_by x new net replicas log (Some own) round x.index h b.size (goes.count ∙ b.count) (goes.within b.within) b.index
+      b.is_next b.commands h.rests.settled e1 e2 e3 e4
 
   -- it chose its command
-  pub chosen_keeps : (x : Attempt V) (s : Scene V) → Stands x s → stage_of s.proposing ≡ Chosen → IsMajority s.count (λ r. Keeps x s.kept r x.index)
-  chosen_keeps x s h e = record { marks = s.proposing.acked; count = h.proposer.acked; most = (chosen_means s.proposing e).1; each = h.proposer.keeps }
+  pub chosen_keeps : (x : Attempt V) (s : Scene V) → Stands x s → stage_of s.proposing ≡ Chosen →
+      IsMajority s.count (λ r. Keeps x s.kept r x.index)
+  chosen_keeps x s h e = record {
+    marks = s.proposing.acked;
+    count = h.proposer.acked;
+    most =
+        (chosen_means s.proposing e).1;
+    each = h.proposer.keeps;
+  }
 
-  pub formed_chosen : (x : Attempt V) (old new : Scene V) (net : Net V) (replicas : ℕ) (log : List V) (own : V) (round : ℕ) → Begun x old replicas log own round → Goes (IsAt (length log) (ballot_of round)) old new →
+  pub formed_chosen : (x : Attempt V) (old new : Scene V) (net : Net V) (replicas : ℕ) (log : List V) (own : V) (round : ℕ) →
+      Begun x old replicas log own round → Goes (IsAt (length log) (ballot_of round)) old new →
       stage_of new.proposing ≡ Chosen →
-      new.count ≡ length net.acceptors.items → new.numbers ≡ number_at net.acceptors.items → new.kept ≡ kept_at net.acceptors.items → new.held ≡ net.held → IsFormed replicas net (log ++ own ∷ []) None (round + 1)
+      new.count ≡ length net.acceptors.items → new.numbers ≡ number_at net.acceptors.items →
+      new.kept ≡ kept_at net.acceptors.items → new.held ≡ net.held →
+      IsFormed replicas net (log ++ own ∷ []) None (round + 1)
   formed_chosen x old new net replicas log own round b goes chosen e1 e2 e3 e4 =
       let h = goes.sound x b.stands b.at in
       let here = chosen_keeps x new h chosen in
       let longer : x.index + 1 ≡ length (log ++ own ∷ []) = let k = b.index in omega (arith, length-append log (own ∷ [])) in
-      formed_by x new net replicas (log ++ own ∷ []) None round (x.index + 1) h b.size (goes.count ∙ b.count) (goes.within b.within) longer b.is_next (b.commands ∙ sym (append-nil (log ++ own ∷ [])))
+      formed_by x new net replicas (log ++ own ∷ []) None round (x.index + 1) h b.size (goes.count ∙ b.count)
+      (goes.within b.within) longer b.is_next (b.commands ∙ sym (append-nil (log ++ own ∷ [])))
       (λ i lt. go i lt (nat_lt i x.index) refl) e1 e2 e3 e4
     where
       go : (i : ℕ) → i < x.index + 1 → (t : Bool) → nat_lt i x.index ≡ t → IsMajority new.count (λ r. Keeps x new.kept r i)
       go i lt true e = (goes.sound x b.stands b.at).rests.settled i (grind (arith, nat_tests))
       go i lt false e = let same : x.index ≡ i = grind (arith, nat_tests) in
-          subst (λ i. IsMajority new.count (λ r. Keeps x new.kept r i)) same (chosen_keeps x new (goes.sound x b.stands b.at) chosen)
+          subst (λ i. IsMajority new.count (λ r. Keeps x new.kept r i)) same
+          (chosen_keeps x new (goes.sound x b.stands b.at) chosen)
 
   -- a majority is heard
-  pub chosen_heard : (x : Attempt V) (old new : Scene V) (silent : ℕ → ℕ → MessageKind → Bool) (store replicas : ℕ) (log : List V) (own : V) (round : ℕ) → Begun x old replicas log own round →
-      Goes (IsAt (length log) (ballot_of round)) old new → stage_of new.proposing ≡ Chosen → ((r : ℕ) (k : MessageKind) → old.silent r k ≡ silent store r k) → IsMajority replicas (λ r. is_heard silent store r ≡ true)
+  pub chosen_heard : (x : Attempt V) (old new : Scene V) (silent : ℕ → ℕ → MessageKind →
+      Bool) (store replicas : ℕ) (log : List V) (own : V) (round : ℕ) → Begun x old replicas log own round →
+      Goes (IsAt (length log) (ballot_of round)) old new → stage_of new.proposing ≡ Chosen →
+      ((r : ℕ) (k : MessageKind) → old.weather.silent r k ≡ silent store r k) →
+      IsMajority replicas (λ r. is_heard silent store r ≡ true)
   chosen_heard x old new silent store replicas log own round b goes chosen is = record {
     marks = new.proposing.acked;
     count = (goes.sound x b.stands b.at).proposer.acked ∙ goes.count ∙ b.count;
@@ -269,20 +341,25 @@ module _ {V : Type 0} where
         rw (put, ack) refl;
   }
 
-  pub same_silence : (x : Attempt V) (old new : Scene V) (replicas : ℕ) (log : List V) (own : V) (round : ℕ) → Begun x old replicas log own round → Goes (IsAt (length log) (ballot_of round)) old new →
-      (r : ℕ) (k : MessageKind) → new.silent r k ≡ old.silent r k
+  pub same_silence : (x : Attempt V) (old new : Scene V) (replicas : ℕ) (log : List V) (own : V) (round : ℕ) →
+      Begun x old replicas log own round → Goes (IsAt (length log) (ballot_of round)) old new →
+      (r : ℕ) (k : MessageKind) → new.weather.silent r k ≡ old.weather.silent r k
   same_silence x old new replicas log own round b goes r k = (goes.sound x b.stands b.at).silent r k ∙ b.silent r k
 
-  pub doubt_majority : (x : Attempt V) (old new : Scene V) (replicas : ℕ) (log : List V) (own : V) (round : ℕ) → Begun x old replicas log own round → Doubts replicas (4 * replicas) (IsAt (length log) (ballot_of round)) old new →
-      IsMajority replicas (λ r. Rose (old.bad r) (new.bad r))
+  pub doubt_majority : (x : Attempt V) (old new : Scene V) (replicas : ℕ) (log : List V) (own : V) (round : ℕ) →
+      Begun x old replicas log own round → Doubts replicas (4 * replicas) (IsAt (length log) (ballot_of round)) old new →
+      IsMajority replicas (λ r. Rose (old.weather.bad r) (new.weather.bad r))
   doubt_majority x old new replicas log own round b doubts = doubts.majority x b.stands b.at b.size
 
-  pub never_doubts : (x : Attempt V) (old new : Scene V) (replicas : ℕ) (log : List V) (own : V) (round n : ℕ) → Begun x old replicas log own round → Doubts replicas (4 * replicas) (IsAt (length log) (ballot_of round)) old new →
-      IsStill (slab_len old.held) old.to_come (4 * replicas + n) → ⊥
-  never_doubts x old new replicas log own round n b doubts still = doubts.not_calm x n b.stands b.at b.size (record { empty = still.empty; fates = still.fates })
+  pub never_doubts : (x : Attempt V) (old new : Scene V) (replicas : ℕ) (log : List V) (own : V) (round n : ℕ) →
+      Begun x old replicas log own round → Doubts replicas (4 * replicas) (IsAt (length log) (ballot_of round)) old new →
+      IsStill (slab_len old.held) old.weather.to_come (4 * replicas + n) → ⊥
+  never_doubts x old new replicas log own round n b doubts still =
+      doubts.not_calm x n b.stands b.at b.size (record { empty = still.empty; fates = still.fates })
 
-  pub stays_still : (x : Attempt V) (old new : Scene V) (replicas : ℕ) (log : List V) (own : V) (round n : ℕ) → Begun x old replicas log own round → StaysCalm (4 * replicas) (IsAt (length log) (ballot_of round)) old new →
-      IsStill (slab_len old.held) old.to_come (4 * replicas + n) → IsStill (slab_len new.held) new.to_come n
+  pub stays_still : (x : Attempt V) (old new : Scene V) (replicas : ℕ) (log : List V) (own : V) (round n : ℕ) →
+      Begun x old replicas log own round → StaysCalm (4 * replicas) (IsAt (length log) (ballot_of round)) old new →
+      IsStill (slab_len old.held) old.weather.to_come (4 * replicas + n) → IsStill (slab_len new.held) new.weather.to_come n
   stays_still x old new replicas log own round n b calm still =
       let k = calm x n b.stands b.at (record { empty = still.empty; fates = still.fates }) in
       record { empty = k.empty; fates = k.fates }

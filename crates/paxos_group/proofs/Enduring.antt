@@ -1,13 +1,14 @@
 -- The weather endures, step by step.
-use Rattle.std.proofs.Common.{ℕ, Bool, arith, refl, ◌∙◌}
-use Rattle.outside.specs.declared.weather.MessageKind.{MessageKind}
+use Rattle.std.proofs.Common.{ℕ, arith, refl, ◌∙◌}
+use Rattle.outside.specs.Weather.{WeatherTold}
 use Rattle.paxos_group.specs.Steps.{Endures}
 
-pub endures_refl : (bad : ℕ → ℕ → ℕ) (silent : ℕ → ℕ → MessageKind → Bool) → Endures bad bad silent silent
-endures_refl bad silent = record { never_falls = λ s r. omega arith; same_silence = λ s r k. refl }
+module _ {W : Type 0} (told : WeatherTold W) where
+  pub endures_refl : (w : W) → Endures told w w
+  endures_refl w = record { never_falls = λ s r. omega arith; same_silence = λ s r k. refl }
 
-pub endures_trans : (bad mid now : ℕ → ℕ → ℕ) (silent between after : ℕ → ℕ → MessageKind → Bool) → Endures bad mid silent between → Endures mid now between after → Endures bad now silent after
-endures_trans bad mid now silent between after f g = record {
-  never_falls = λ s r. let a = f.never_falls s r in let b = g.never_falls s r in omega arith;
-  same_silence = λ s r k. g.same_silence s r k ∙ f.same_silence s r k;
-}
+  pub endures_trans : (before mid now : W) → Endures told before mid → Endures told mid now → Endures told before now
+  endures_trans before mid now f g = record {
+    never_falls = λ s r. let a = f.never_falls s r in let b = g.never_falls s r in omega arith;
+    same_silence = λ s r k. g.same_silence s r k ∙ f.same_silence s r k;
+  }

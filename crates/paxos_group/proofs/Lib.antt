@@ -1,5 +1,6 @@
 pub mod Told
 pub mod Moved
+pub mod Votes
 pub mod Replicas
 pub mod Going
 pub mod Doubt
@@ -7,3 +8,4 @@ pub mod Attempts
 pub mod Stillness
 pub mod Groups
 pub mod Enduring
+pub mod Attempting

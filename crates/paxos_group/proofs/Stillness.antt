@@ -19,7 +19,8 @@ pub still_less : (held n m : ℕ) (to_come : Option (List Fate)) → m ≤ n →
 still_less held n m to_come le h = record { empty = h.empty; fates = delivers_less n m to_come le h.fates }
 
 -- two attempts, one after the other
-pub still_split : (held r n : ℕ) (to_come : Option (List Fate)) → IsStill held to_come (8 * r + n) → IsStill held to_come (4 * r + (4 * r + n))
+pub still_split : (held r n : ℕ) (to_come : Option (List Fate)) → IsStill held to_come (8 * r + n) →
+    IsStill held to_come (4 * r + (4 * r + n))
 still_split held r n to_come h = still_less held (8 * r + n) (4 * r + (4 * r + n)) to_come (omega arith) h
 
 module _ {V : Type 0} where

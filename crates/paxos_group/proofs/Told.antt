@@ -1,5 +1,6 @@
 -- What a message makes of the proposer of an attempt.
-use Rattle.std.proofs.Common.{◌≡◌, ℕ, zero, suc, Bool, true, false, not, ◌&&◌, List, [], ◌∷◌, inl, inr, subst, refl, sym, ◌∙◌, ap}
+use Rattle.std.proofs.Common.{◌≡◌, ℕ, zero, suc, Bool, true, false, not, ◌&&◌, List, [], ◌∷◌, inl, inr, subst, refl, sym, ◌∙◌}
+use Rattle.std.proofs.Common.{ap}
 use Rattle.std.specs.Prelude.{slice_get, slice_set, slice_index_or, Option, Some, None, if◌then◌else◌}
 use Rattle.std.proofs.lemmas.List.{length-set}
 use Rattle.outside.specs.declared.weather.MessageKind.TheVariants as kind
@@ -28,7 +29,12 @@ module _ {V : Type 0} where
   grows-refl p = record { heard = λ r h. h; acked = λ r h. h; promised = λ h. h }
 
   pub grows-trans : (p q s : Proposing V) → Grows p q → Grows q s → Grows p s
-  grows-trans p q s g h = record { heard = λ r k. h.heard r (g.heard r k); acked = λ r k. h.acked r (g.acked r k); promised = λ k. h.promised (g.promised k) }
+  grows-trans p q s g h = record {
+    heard = λ r k. h.heard r (g.heard r k);
+    acked = λ r k. h.acked r (g.acked r k);
+    promised =
+        λ k. h.promised (g.promised k);
+  }
 
   pub grows_told : (p : Proposing V) (m : Message V) → Grows p (told p m)
   grows_told p (Ask i b) = grows-refl p
@@ -40,11 +46,13 @@ module _ {V : Type 0} where
     promised = λ h. (promised_stays p (Promise q i b a) h).0;
   }
     where
-      heard : (r : ℕ) → slice_get p.heard r ≡ Some true → (t : Bool) → (is_for p i b && (is_new p q && not (is_promised p))) ≡ t → slice_get (told p (Promise q i b a)).heard r ≡ Some true
+      heard : (r : ℕ) → slice_get p.heard r ≡ Some true → (t : Bool) →
+          (is_for p i b && (is_new p q && not (is_promised p))) ≡ t → slice_get (told p (Promise q i b a)).heard r ≡ Some true
       heard r h true e = rw e (true_stays p.heard q r h)
       heard r h false e = rw e h
 
-      acked : (r : ℕ) → slice_get p.acked r ≡ Some true → (t : Bool) → (is_for p i b && (is_new p q && not (is_promised p))) ≡ t → slice_get (told p (Promise q i b a)).acked r ≡ Some true
+      acked : (r : ℕ) → slice_get p.acked r ≡ Some true → (t : Bool) →
+          (is_for p i b && (is_new p q && not (is_promised p))) ≡ t → slice_get (told p (Promise q i b a)).acked r ≡ Some true
       acked r h true e = rw e h
       acked r h false e = rw e h
   grows_told p (Ack q i b) = record {
@@ -53,11 +61,13 @@ module _ {V : Type 0} where
     promised = λ h. (promised_stays p (Ack q i b) h).0;
   }
     where
-      heard : (r : ℕ) → slice_get p.heard r ≡ Some true → (t : Bool) → (is_for p i b && is_promised p) ≡ t → slice_get (told p (Ack q i b)).heard r ≡ Some true
+      heard : (r : ℕ) → slice_get p.heard r ≡ Some true → (t : Bool) → (is_for p i b && is_promised p) ≡ t →
+          slice_get (told p (Ack q i b)).heard r ≡ Some true
       heard r h true e = rw e h
       heard r h false e = rw e h
 
-      acked : (r : ℕ) → slice_get p.acked r ≡ Some true → (t : Bool) → (is_for p i b && is_promised p) ≡ t → slice_get (told p (Ack q i b)).acked r ≡ Some true
+      acked : (r : ℕ) → slice_get p.acked r ≡ Some true → (t : Bool) → (is_for p i b && is_promised p) ≡ t →
+          slice_get (told p (Ack q i b)).acked r ≡ Some true
       acked r h true e = rw e (true_stays p.acked q r h)
       acked r h false e = rw e h
 
@@ -68,7 +78,8 @@ module _ {V : Type 0} where
   counted_told p (Nack q i b) w = tt
   counted_told p (Promise q i b a) w = go (is_promised p) (slice_index_or p.heard q true) refl refl
     where
-      go : (t u : Bool) → is_promised p ≡ t → slice_index_or p.heard q true ≡ u → IsCounted (told p (Promise q i b a)) (Promise q i b a)
+      go : (t u : Bool) → is_promised p ≡ t → slice_index_or p.heard q true ≡ u →
+          IsCounted (told p (Promise q i b a)) (Promise q i b a)
       go true u e f = inl ((grows_told p (Promise q i b a)).promised e)
       go false true e f = inr ((grows_told p (Promise q i b a)).heard q (marked p.heard q w.1 f))
       go false false e f = let fits = w.0 in inr (rw (fits, f, e) (mark_here p.heard q w.1))
@@ -83,7 +94,8 @@ module _ {V : Type 0} where
   counted_grows p q (Ack r i b) g h = g.acked r h
 
   -- the better of two commands of the index is its command
-  pub better_proposed : (x : Attempt V) (i : ℕ) (best accepted : Option (Ballot × V)) → IsProposed x i best → IsProposed x i accepted → IsProposed x i (better best accepted)
+  pub better_proposed : (x : Attempt V) (i : ℕ) (best accepted : Option (Ballot × V)) → IsProposed x i best →
+      IsProposed x i accepted → IsProposed x i (better best accepted)
   better_proposed x i None None h k = tt
   better_proposed x i (Some y) None h k = h
   better_proposed x i None (Some z) h k = k
@@ -100,7 +112,8 @@ module _ {V : Type 0} where
   proposer_told x count kept r p (Nack q i b) h sent heard = h
   proposer_told x count kept r p (Promise q i b a) h sent heard = go (is_for p i b && (is_new p q && not (is_promised p))) refl
     where
-      go : (t : Bool) → (is_for p i b && (is_new p q && not (is_promised p))) ≡ t → ProposerOk x count kept (told p (Promise q i b a))
+      go : (t : Bool) → (is_for p i b && (is_new p q && not (is_promised p))) ≡ t →
+          ProposerOk x count kept (told p (Promise q i b a))
       go false e = rw e h
       go true e =
           let parts = and_true (is_for p i b) (is_new p q && not (is_promised p)) e in
@@ -137,7 +150,8 @@ module _ {V : Type 0} where
             heard = h.heard;
             acked = length-set p.acked q true ∙ h.acked;
             keeps = λ s k. elim (true_in_set p.acked q s k) [
-              | inl here ↦ subst (λ s. Keeps x kept s x.index) (sym (here ∙ from)) (subst (λ i. Keeps x kept r i) at (sent.keeps present))
+              | inl here ↦ subst (λ s. Keeps x kept s x.index) (sym (here ∙ from))
+                  (subst (λ i. Keeps x kept r i) at (sent.keeps present))
               | inr there ↦ h.keeps s there
             ];
             put = λ s k. elim (true_in_set p.acked q s k) [

@@ -1,5 +1,6 @@
 -- What an append leaves.
-use Rattle.std.specs.Prelude.{◌≡◌, ℕ, ◌+◌, Bool, true, false, List, [], ◌∷◌, ◌++◌, length, Option, Some, None, IsSome, is_some, unwrap_or, Result, Ok, Err}
+use Rattle.std.specs.Prelude.{◌≡◌, ℕ, ◌+◌, Bool, true, false, List, [], ◌∷◌, ◌++◌, length, Option, Some, None, IsSome, is_some}
+use Rattle.std.specs.Prelude.{unwrap_or, Result, Ok, Err}
 use Rattle.paxos_group.specs.declared.fault.GroupFault.{GroupFault}
 use Rattle.paxos_group.specs.declared.fault.GroupFault.TheVariants as fault
 use Rattle.paxos_group.specs.declared.fault.Appended.{Appended}

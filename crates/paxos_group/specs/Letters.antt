@@ -33,4 +33,12 @@ module _ {V : Type 0} where
 
   -- the name of a message between the group of this store and this replica
   abbrev pub name_of : ℕ → ℕ → Message V → MessageName
-  name_of store replica m = record { store = store; replica = replica; to_replica = is_to_replica m; kind = kind_of m; index = index_of m; round = round_of m }
+  name_of store replica m = record {
+    store = store;
+    replica = replica;
+    to_replica = is_to_replica m;
+    kind = kind_of m;
+    index =
+        index_of m;
+    round = round_of m;
+  }

@@ -6,3 +6,4 @@ pub mod Steps
 pub mod Formed
 pub mod Settling
 pub mod Ledger
+pub mod Moments

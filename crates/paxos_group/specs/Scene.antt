@@ -3,6 +3,7 @@ use Rattle.std.specs.Prelude.{◌≡◌, ℕ, ◌==◌, ◌⊎◌, Bool, List, l
 use Rattle.slab.specs.Slab.{Slab, get}
 use Rattle.outside.specs.declared.weather.Fate.{Fate}
 use Rattle.outside.specs.declared.weather.MessageKind.{MessageKind}
+use Rattle.outside.specs.Weather.{WeatherTold}
 use Rattle.paxos_core.specs.declared.message.Message.{Message}
 use Rattle.paxos_core.specs.declared.acceptor.Acceptor.{Acceptor}
 use Rattle.paxos_core.specs.declared.acceptor.Standing.{Standing}
@@ -50,6 +51,16 @@ module _ {V : Type 0} where
   abbrev pub GainsAtMost : Slab (Letter V) → Slab (Letter V) → Letter V → Type 0
   GainsAtMost old new letter = (key : ℕ) (l : Letter V) → get new key ≡ Some l → (get old key ≡ Some l) ⊎ (l ≡ letter)
 
+-- what a weather tells of one store: how many bad fates the messages of each replica met, the fates to come, and which
+-- messages of a replica it always loses
+pub record StoreWeather : Type 0 where
+  pub bad : ℕ → ℕ
+  pub to_come : Option (List Fate)
+  pub silent : ℕ → MessageKind → Bool
+
+abbrev pub weather_at : {W : Type 0} → WeatherTold W → W → ℕ → StoreWeather
+weather_at told w store = record { bad = told.bad w store; to_come = told.to_come w; silent = told.silent w store }
+
 -- a moment of an attempt at a store
 pub record Scene (V : Type 0) : Type 0 where
   pub store : ℕ
@@ -59,21 +70,16 @@ pub record Scene (V : Type 0) : Type 0 where
   pub kept : ℕ → ℕ → Standing V
   pub held : Slab (Letter V)
   pub proposing : Proposing V
-  -- the weather, at this store
-  pub bad : ℕ → ℕ
-  pub to_come : Option (List Fate)
-  pub silent : ℕ → MessageKind → Bool
+  pub weather : StoreWeather
 
 -- the moment of this weather, this net and this proposer
-abbrev pub scene : {W V : Type 0} → (W → ℕ → ℕ → ℕ) → (W → Option (List Fate)) → (W → ℕ → ℕ → MessageKind → Bool) → W → Net V → Proposing V → Scene V
-scene bad to_come silent w net p = record {
+abbrev pub scene : {W V : Type 0} → WeatherTold W → W → Net V → Proposing V → Scene V
+scene told w net p = record {
   store = net.store;
   count = length net.acceptors.items;
   numbers = number_at net.acceptors.items;
   kept = kept_at net.acceptors.items;
   held = net.held;
   proposing = p;
-  bad = λ r. bad w net.store r;
-  to_come = to_come w;
-  silent = λ r kind. silent w net.store r kind;
+  weather = weather_at told w net.store;
 }

@@ -1,5 +1,6 @@
 -- What a contract sees of a group.
-use Rattle.std.specs.Prelude.{◌≡◌, ℕ, zero, suc, Bool, true, false, List, [], ◌∷◌, ◌++◌, length, Option, Some, None, slice_get, map}
+use Rattle.std.specs.Prelude.{◌≡◌, ℕ, zero, suc, Bool, true, false, List, [], ◌∷◌, ◌++◌, length, Option, Some, None, slice_get}
+use Rattle.std.specs.Prelude.{map, ⊤}
 use Rattle.std.specs.Prelude.{count_by}
 use Rattle.paxos_core.specs.declared.ballot.Ballot.{Ballot}
 use Rattle.paxos_core.specs.declared.acceptor.Acceptor.{Acceptor}
@@ -43,6 +44,12 @@ module _ {V : Type 0} where
   -- what the replica accepted last at the settled index
   abbrev pub accepted_at : Settling V → ℕ → ℕ → Option (Option (Ballot × V))
   accepted_at g index r = row_at (slice_get g.accepted index) r
+
+  -- a vote stays: it is for the same command, under the same ballot or another
+  abbrev pub VoteStays : Option (Option (Ballot × V)) → Option (Option (Ballot × V)) → Type 0
+  VoteStays (Some (Some vote)) now = (b : Ballot) × (now ≡ Some (Some (b, vote.1)))
+  VoteStays (Some None) now = ⊤
+  VoteStays None now = ⊤
 
   -- the replica accepted the settled command of the index, last under this ballot
   pub record Holds (g : Settling V) (index r : ℕ) (b : Ballot) : Type 0 where

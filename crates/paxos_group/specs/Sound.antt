@@ -109,17 +109,18 @@ module _ {V : Type 0} where
     pub not_lost : IsNotLost x l.replica l.message
 
   -- what holds also between two attempts
-  pub record Rests (x : Attempt V) (count : ℕ) (numbers : ℕ → ℕ) (kept : ℕ → ℕ → Standing V) (held : Slab (Letter V)) : Type 0 where
-    pub tops : (i : ℕ) → x.tops i ≤ x.last
-    pub numbered : (r : ℕ) → r < count → numbers r ≡ r
-    pub standings : (r i : ℕ) → StandingOk x i (kept r i)
-    pub letters : (key : ℕ) (l : Letter V) → get held key ≡ Some l → LetterOk x count kept l
-    pub settled : (i : ℕ) → i < x.index → IsMajority count (λ r. Keeps x kept r i)
+  pub record Rests (x : Attempt V) (count : ℕ) (numbers : ℕ → ℕ) (kept : ℕ → ℕ → Standing V) (held : Slab (Letter V)) : Type 0
+    where
+      pub tops : (i : ℕ) → x.tops i ≤ x.last
+      pub numbered : (r : ℕ) → r < count → numbers r ≡ r
+      pub standings : (r i : ℕ) → StandingOk x i (kept r i)
+      pub letters : (key : ℕ) (l : Letter V) → get held key ≡ Some l → LetterOk x count kept l
+      pub settled : (i : ℕ) → i < x.index → IsMajority count (λ r. Keeps x kept r i)
 
   -- what holds at each moment of the attempt
   pub record Stands (x : Attempt V) (s : Scene V) : Type 0 where
     pub rests : Rests x s.count s.numbers s.kept s.held
     pub last : x.last ≡ x.round
     pub here : x.tops x.index ≡ x.round
-    pub silent : (r : ℕ) (k : MessageKind) → s.silent r k ≡ x.silent r k
+    pub silent : (r : ℕ) (k : MessageKind) → s.weather.silent r k ≡ x.silent r k
     pub proposer : ProposerOk x s.count s.kept s.proposing

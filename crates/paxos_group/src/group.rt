@@ -1,17 +1,14 @@
 //! The group.
 
-ghost use Rattle.std.specs.Prelude.{◌≡◌, ℕ, ◌+◌, ◌*◌, ◌^◌, ◌<◌, ◌≤◌, ◌⊎◌, [], None, length, IfOk, IfErr, OnOk, OnErr, IsTrue, true, false, is_some, option_copied, count_by};
-ghost use Rattle.outside.specs.Count.{Rose};
-ghost use Rattle.outside.specs.Weather.{is_heard};
-ghost use Rattle.outside.specs.declared.weather.MessageKind.{MessageKind};
+ghost use Rattle.std.specs.Prelude.{◌≡◌, ℕ, ◌*◌, ◌^◌, ◌<◌, ◌⊎◌, [], None, length, IfOk, IfErr, OnOk, OnErr, IsTrue, true, false};
+ghost use Rattle.std.specs.Prelude.{is_some, option_copied, count_by};
 ghost use Rattle.paxos_core.specs.declared.ballot.Ballot.{Ballot};
 ghost use Rattle.paxos_core.specs.Acceptor.{standing_of};
 ghost use Rattle.paxos_core.specs.Standing.{blank};
-ghost use Rattle.paxos_core.specs.Majority.{IsMajority};
-ghost use Rattle.paxos_group.specs.Fates.{IsStill};
 ghost use Rattle.paxos_group.specs.Scene.{kept_at, number_at};
 ghost use Rattle.paxos_group.specs.Settling.{IsCount, Holds, IsSettled};
 ghost use Rattle.paxos_group.specs.Ledger.{ledger, IsSettledNow, InDoubt, IsUnasked};
+ghost use Rattle.paxos_group.specs.Moments.{Attempts, IsHeard, moment};
 ghost use Rattle.paxos_group.specs.declared.fault.GroupFault.{GroupFault};
 
 use crate::fault::Appended;
@@ -32,30 +29,23 @@ pub struct Group<V> {
 }
 
 impl<V> Model for Group<V> {
-    ghost use Rattle.std.specs.Prelude.{ℕ, length};
-    ghost use Rattle.slab.specs.Slab.{slab_len};
     ghost use Rattle.paxos_group.specs.Formed.{IsFormed};
-    ghost use Rattle.paxos_group.specs.Settling.{Settling, each_below, accepted_by};
+    ghost use Rattle.paxos_group.specs.Settling.{Settling};
+    ghost use Rattle.paxos_group.specs.Moments.{seen_of};
 
     ghost Value = { Settling V };
 
-    ghost view = { λ a. record {
-      store = a.parts.net.store;
-      replicas = a.parts.replicas;
-      accepted = each_below (accepted_by a.parts.net.acceptors.items) (length a.parts.log.items);
-      log = a.parts.log.items;
-      pending = a.parts.pending;
-      round = a.parts.round;
-      held = slab_len a.parts.net.held;
-    } };
+    ghost view = { λ group. seen_of group.parts };
 
-    ghost invariant = { λ a. IsFormed a.parts.replicas a.parts.net a.parts.log.items a.parts.pending a.parts.round };
+    ghost invariant = { λ group. IsFormed group.parts.replicas group.parts.net
+        group.parts.log.items group.parts.pending group.parts.round };
 }
 
 /// The acceptors of replicas that kept nothing yet.
 fn acceptors_of<V: Copies>(alloc: Global, replicas: u32) -> Result<Vec<Acceptor<V>>, NoMemory>
     ensures count { IfOk result (λ acceptors. length acceptors.items ≡ replicas) }
-    ensures numbers { IfOk result (λ acceptors. (r : ℕ) → r < replicas → number_at acceptors.items r ≡ r) }
+    ensures numbers { IfOk result (λ acceptors. (r : ℕ) → r < replicas →
+        number_at acceptors.items r ≡ r) }
     ensures nothing { IfOk result (λ acceptors. (r i : ℕ) → kept_at acceptors.items r i ≡ blank) }
 {
     let mut acceptors = Vec::new(alloc);
@@ -89,7 +79,16 @@ impl<V: Copies> Group<V> {
     /// A group of three or five replicas of a store, with an empty log.
     pub fn new(alloc: Global, store: u32, replicas: u32) -> Result<Group<V>, NoMemory>
         requires { (replicas ≡ 3) ⊎ (replicas ≡ 5) }
-        ensures { IfOk result (λ group. group ≡ record { store = store; replicas = replicas; accepted = []; log = []; pending = None; round = 1; held = 0 }) }
+        ensures { IfOk result (λ group. group ≡ record {
+          store = store;
+          replicas =
+              replicas;
+          accepted = [];
+          log = [];
+          pending = None;
+          round = 1;
+          held = 0;
+        }) }
     {
         let acceptors = acceptors_of(alloc, replicas)?;
         Ok(Group {
@@ -114,26 +113,21 @@ impl<V: Copies> Group<V> {
         requires next { length self.old.log < 2 ^ 63 }
 
         // What it leaves.
-        ensures ok { OnOk result.own (IsSettledNow (ledger self.old) (ledger self.new) command.now result) }
-        ensures in_doubt { IsTrue result.doubted → InDoubt result.late (ledger self.old) (ledger self.new) command.now }
-        ensures unasked { OnErr result.own (result.doubted ≡ false → IsUnasked (ledger self.old) (ledger self.new) result) }
-        ensures untouched { OnErr result.own (result.doubted ≡ false → self.new ≡ self.old) }
-        ensures doubt_is_doubted { IfErr result.own (λ fault. fault ≡ GroupFault.Doubt → result.doubted ≡ true) }
-        ensures replicas { self.new.replicas ≡ self.old.replicas }
-        ensures store { self.new.store ≡ self.old.store }
+        ensures ok { OnOk result.own (IsSettledNow (ledger self.old) (ledger self.new) command.now
+            result) }
+        ensures in_doubt { IsTrue result.doubted →
+            InDoubt result.late (ledger self.old) (ledger self.new) command.now }
+        ensures unasked { OnErr result.own (result.doubted ≡ false →
+            IsUnasked (ledger self.old) (ledger self.new) result) }
+        ensures untouched { OnErr result.own (result.doubted ≡ false →
+            (self.new ≡ self.old) × (weather.new ≡ weather.old)) }
+        ensures doubt_is_doubted { IfErr result.own (λ fault. fault ≡ GroupFault.Doubt →
+            result.doubted ≡ true) }
 
-        // It settles only where a majority of the replicas are heard.
-        ensures heard { OnOk result.own (IsMajority self.old.replicas (λ r. is_heard (W.silent weather.old) self.old.store r ≡ true)) }
-        ensures late_heard { IsTrue result.late → IsMajority self.old.replicas (λ r. is_heard (W.silent weather.old) self.old.store r ≡ true) }
-
-        // It is in doubt only where a majority of the replicas had a bad fate, and never in calm weather.
-        ensures doubt { IfErr result.own (λ fault. fault ≡ GroupFault.Doubt → IsMajority self.old.replicas (λ r. Rose (W.bad weather.old self.old.store r) (W.bad weather.new self.old.store r))) }
-        ensures no_doubt { IfErr result.own (λ fault. fault ≡ GroupFault.Doubt → IsStill self.old.held (W.to_come weather.old) (8 * self.old.replicas) → ⊥) }
-        ensures still { OnOk result.own ((n : ℕ) → IsStill self.old.held (W.to_come weather.old) (8 * self.old.replicas + n) → IsStill self.new.held (W.to_come weather.new) n) }
-
-        // No count falls, of any store, and what the weather always loses stays.
-        ensures never_falls { (store replica : ℕ) → W.bad weather.old store replica ≤ W.bad weather.new store replica }
-        ensures same_silence { (store replica : ℕ) (kind : MessageKind) → W.silent weather.new store replica kind ≡ W.silent weather.old store replica kind }
+        // When it ends so: at most two attempts, of at most four fates for each replica.
+        ensures attempts { Attempts W.told 8 (moment self.old weather.old)
+            (moment self.new weather.new) result.own }
+        ensures late_heard { IsTrue result.late → IsHeard W.told (moment self.old weather.old) }
     {
         self.parts.append(alloc, command, weather)
     }
@@ -163,7 +157,8 @@ impl<V: Copies> Group<V> {
     /// How many replicas accepted the settled command of the index: a majority, under one ballot.
     pub fn holders(&self, index: u64) -> u32
         requires { index < length self.now.log }
-        ensures count { IsCount self.now.replicas (λ r. (b : Ballot) × Holds self.now index r b) result }
+        ensures count { IsCount self.now.replicas (λ r. (b : Ballot) × Holds self.now index r b)
+            result }
         ensures majority { self.now.replicas < 2 * result }
         ensures settled { IsSettled self.now index }
     {

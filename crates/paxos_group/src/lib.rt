@@ -4,6 +4,16 @@
 //! that a command is settled only where a majority is heard; and that it answers a doubt only where a
 //! majority of the replicas had a bad fate in that call, and never in calm weather ([`Group::append`]).
 //! It is generic over the command, and stands on `paxos_core`, `outside`, `nfs3_types` and `slab`.
+//!
+//! ```text
+//! let mut group = Group::new(alloc, store, 3)?;
+//! let appended = group.append(alloc, &command, &mut weather);
+//! match appended.own {
+//!     Ok(()) => answer(group.log()),
+//!     Err(GroupFault::Doubt) => retry(&command),
+//!     Err(GroupFault::NoMemory) => give_up(appended.doubted),
+//! }
+//! ```
 #![tactic(auto)]
 
 mod fault;
@@ -14,6 +24,3 @@ mod parts;
 
 pub use fault::{Appended, GroupFault};
 pub use group::Group;
-
-#[cfg(test)]
-mod tests;

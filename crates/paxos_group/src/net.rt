@@ -8,10 +8,11 @@ ghost use Rattle.paxos_core.specs.declared.proposer.Stage.{Stage};
 ghost use Rattle.paxos_group.specs.declared.fault.GroupFault.{GroupFault};
 ghost use Rattle.paxos_group.specs.Scene.{number_at, kept_at, IsMoved, IsKept, GainsAtMost, scene};
 ghost use Rattle.paxos_group.specs.Sound.{Attempt, IsSent, IsNotLost};
-ghost use Rattle.paxos_group.specs.Steps.{Came, IsAwaited, IsCounted, Goes, Tells, IsFreshOf, Reaches, ReachesBelow, IsAt, StaysCalm, Doubts, Endures};
+ghost use Rattle.paxos_group.specs.Steps.{Came, IsAwaited, IsCounted, Goes, Tells, IsFreshOf, Reaches, ReachesBelow, IsAt};
+ghost use Rattle.paxos_group.specs.Steps.{StaysCalm, Doubts, Endures};
 
 use crate::fault::GroupFault;
-use crate::letter::{Letter, copy_of, fate_of, is_for_replica};
+use crate::letter::{Letter, fate_of, is_for_replica};
 use nfs3_types::{Copies, NoMemory};
 use outside::{Fate, Weather};
 use paxos_core::{Acceptor, Ballot, Message, Proposer, Stage};
@@ -37,8 +38,10 @@ fn take_in<V: Copies>(
     message: &Message<V>,
 ) -> Result<Option<Message<V>>, NoMemory>
     requires { replica < length acceptors.old.items }
-    ensures moved { OnOk result (IsMoved acceptors.old.items acceptors.new.items replica message.now) }
-    ensures answer { IfOk result (λ reply. reply ≡ answer (number_at acceptors.old.items replica) (kept_at acceptors.old.items replica) message.now) }
+    ensures moved { OnOk result (IsMoved acceptors.old.items acceptors.new.items replica
+        message.now) }
+    ensures answer { IfOk result (λ reply. reply ≡ answer (number_at acceptors.old.items replica)
+        (kept_at acceptors.old.items replica) message.now) }
     ensures stays { OnErr result (IsKept acceptors.old.items acceptors.new.items) }
 {
     let acceptor = &mut acceptors[replica];
@@ -58,7 +61,8 @@ fn hold<V: Drop>(held: &mut Slab<Letter<V>>, letter: Letter<V>) -> Result<(), No
 
 /// Takes the held message of this place, in the order of keys.
 fn take_held<V: Drop>(held: &mut Slab<Letter<V>>, place: u64) -> Option<Letter<V>>
-    ensures others { (key : ℕ) (l : Letter V) → get held.new key ≡ Some l → get held.old key ≡ Some l }
+    ensures others { (key : ℕ) (l : Letter V) → get held.new key ≡ Some l →
+        get held.old key ≡ Some l }
     ensures known { IfSome result (λ l. (key : ℕ) × (get held.old key ≡ Some l)) }
     ensures fewer { slab_len held.new ≤ slab_len held.old }
     ensures none { slab_len held.old ≤ place → (result ≡ None) }
@@ -75,7 +79,8 @@ fn tell<V: Copies>(
     message: &Message<V>,
 ) -> Result<(), NoMemory>
     ensures came { Came message.now proposer.old proposer.new }
-    ensures counted { OnOk result (IsAwaited proposer.old message.now → IsCounted proposer.new message.now) }
+    ensures counted { OnOk result (IsAwaited proposer.old message.now →
+        IsCounted proposer.new message.now) }
 {
     proposer.on_message(alloc, message)?;
     Ok(())
@@ -90,13 +95,14 @@ impl<V: Copies> Net<V> {
         weather: &mut W,
         letter: Letter<V>,
     ) -> Result<(), NoMemory>
-        ensures endures { Endures (W.bad weather.old) (W.bad weather.new) (W.silent weather.old) (W.silent weather.new) }
-        ensures goes { Goes (λ x. (letter.replica < length self.old.acceptors.items) × IsSent x (kept_at self.old.acceptors.items) letter.replica letter.message)
-            (scene W.bad W.to_come W.silent weather.old self.old proposer.old)
-            (scene W.bad W.to_come W.silent weather.new self.new proposer.new) }
+        ensures endures { Endures W.told weather.old weather.new }
+        ensures goes { Goes (λ x. (letter.replica < length self.old.acceptors.items) × IsSent x
+            (kept_at self.old.acceptors.items) letter.replica letter.message)
+            (scene W.told weather.old self.old proposer.old)
+            (scene W.told weather.new self.new proposer.new) }
         ensures tells { OnOk result (Tells letter.message letter.replica
-            (scene W.bad W.to_come W.silent weather.old self.old proposer.old)
-            (scene W.bad W.to_come W.silent weather.new self.new proposer.new)) }
+            (scene W.told weather.old self.old proposer.old)
+            (scene W.told weather.new self.new proposer.new)) }
     {
         match fate_of(self.store, letter.replica, &letter.message, weather) {
             Fate::Lose => Ok(()),
@@ -119,13 +125,14 @@ impl<V: Copies> Net<V> {
         message: &Message<V>,
     ) -> Result<(), NoMemory>
         requires { replica < length self.old.acceptors.items }
-        ensures endures { Endures (W.bad weather.old) (W.bad weather.new) (W.silent weather.old) (W.silent weather.new) }
-        ensures goes { Goes (λ x. IsSent x (kept_at self.old.acceptors.items) replica message.now × IsNotLost x replica message.now)
-            (scene W.bad W.to_come W.silent weather.old self.old proposer.old)
-            (scene W.bad W.to_come W.silent weather.new self.new proposer.new) }
+        ensures endures { Endures W.told weather.old weather.new }
+        ensures goes { Goes (λ x. IsSent x (kept_at self.old.acceptors.items) replica message.now ×
+            IsNotLost x replica message.now)
+            (scene W.told weather.old self.old proposer.old)
+            (scene W.told weather.new self.new proposer.new) }
         ensures reaches { OnOk result (Reaches 1 message.now replica
-            (scene W.bad W.to_come W.silent weather.old self.old proposer.old)
-            (scene W.bad W.to_come W.silent weather.new self.new proposer.new)) }
+            (scene W.told weather.old self.old proposer.old)
+            (scene W.told weather.new self.new proposer.new)) }
     {
         match take_in(alloc, &mut self.acceptors, replica as usize, message)? {
             Some(reply) => self.answer(
@@ -141,18 +148,21 @@ impl<V: Copies> Net<V> {
         }
     }
 
-    /// Lets a held message come, where the weather has it so: the k-th by rising key, where it answers k.
+    /// Lets a held message come, where the weather has it so: where it answers k, the k-th by rising key in
+    /// the slab, from 0, which gives the key of a message that came to the next one that is held back.
     fn let_stray<W: Weather>(
         &mut self,
         alloc: Global,
         proposer: &mut Proposer<V>,
         weather: &mut W,
     ) -> Result<(), NoMemory>
-        ensures endures { Endures (W.bad weather.old) (W.bad weather.new) (W.silent weather.old) (W.silent weather.new) }
+        ensures endures { Endures W.told weather.old weather.new }
         ensures goes { Goes (λ x. ⊤)
-            (scene W.bad W.to_come W.silent weather.old self.old proposer.old)
-            (scene W.bad W.to_come W.silent weather.new self.new proposer.new) }
-        ensures idle { slab_len self.old.held ≡ 0 → (self.new ≡ self.old) × (W.to_come weather.new ≡ W.to_come weather.old) × (proposer.new ≡ proposer.old) }
+            (scene W.told weather.old self.old proposer.old)
+            (scene W.told weather.new self.new proposer.new) }
+        ensures idle { slab_len self.old.held ≡ 0 →
+            (self.new ≡ self.old) × (W.told.to_come weather.new ≡ W.told.to_come weather.old) ×
+            (proposer.new ≡ proposer.old) }
     {
         let Some(place) = weather.stray(self.held.len() as u64) else {
             return Ok(());
@@ -180,19 +190,19 @@ impl<V: Copies> Net<V> {
         message: &Message<V>,
     ) -> Result<(), NoMemory>
         requires { replica < length self.old.acceptors.items }
-        ensures endures { Endures (W.bad weather.old) (W.bad weather.new) (W.silent weather.old) (W.silent weather.new) }
+        ensures endures { Endures W.told weather.old weather.new }
         ensures goes { Goes (λ x. IsFreshOf x message.now)
-            (scene W.bad W.to_come W.silent weather.old self.old proposer.old)
-            (scene W.bad W.to_come W.silent weather.new self.new proposer.new) }
+            (scene W.told weather.old self.old proposer.old)
+            (scene W.told weather.new self.new proposer.new) }
         ensures reaches { OnOk result (Reaches 2 message.now replica
-            (scene W.bad W.to_come W.silent weather.old self.old proposer.old)
-            (scene W.bad W.to_come W.silent weather.new self.new proposer.new)) }
+            (scene W.told weather.old self.old proposer.old)
+            (scene W.told weather.new self.new proposer.new)) }
     {
         self.let_stray(alloc, proposer, weather)?;
         match fate_of(self.store, replica, message, weather) {
             Fate::Lose => Ok(()),
             Fate::Hold => {
-                let message = copy_of(alloc, message)?;
+                let message = message.copy(alloc)?;
                 hold(&mut self.held, Letter { replica, message })
             }
             Fate::Deliver => self.bring(alloc, proposer, weather, replica, message),
@@ -213,13 +223,13 @@ impl<V: Copies> Net<V> {
         message: &Message<V>,
     ) -> Result<(), NoMemory>
         requires { length self.old.acceptors.items ≡ replicas }
-        ensures endures { Endures (W.bad weather.old) (W.bad weather.new) (W.silent weather.old) (W.silent weather.new) }
+        ensures endures { Endures W.told weather.old weather.new }
         ensures goes { Goes (λ x. IsFreshOf x message.now)
-            (scene W.bad W.to_come W.silent weather.old self.old proposer.old)
-            (scene W.bad W.to_come W.silent weather.new self.new proposer.new) }
+            (scene W.told weather.old self.old proposer.old)
+            (scene W.told weather.new self.new proposer.new) }
         ensures reaches { OnOk result (ReachesBelow replicas message.now
-            (scene W.bad W.to_come W.silent weather.old self.old proposer.old)
-            (scene W.bad W.to_come W.silent weather.new self.new proposer.new)) }
+            (scene W.told weather.old self.old proposer.old)
+            (scene W.told weather.new self.new proposer.new)) }
     {
         for replica in 0..replicas {
             self.send(alloc, proposer, weather, replica, message)?;
@@ -238,17 +248,18 @@ impl<V: Copies> Net<V> {
         ballot: Ballot,
     ) -> Result<(), GroupFault>
         requires { length self.old.acceptors.items ≡ replicas }
-        ensures endures { Endures (W.bad weather.old) (W.bad weather.new) (W.silent weather.old) (W.silent weather.new) }
+        ensures endures { Endures W.told weather.old weather.new }
         ensures goes { Goes (IsAt index ballot)
-            (scene W.bad W.to_come W.silent weather.old self.old proposer.old)
-            (scene W.bad W.to_come W.silent weather.new self.new proposer.new) }
+            (scene W.told weather.old self.old proposer.old)
+            (scene W.told weather.new self.new proposer.new) }
         ensures promised { OnOk result (is_promised proposer.new ≡ true) }
         ensures calm { OnOk result (StaysCalm (2 * replicas) (IsAt index ballot)
-            (scene W.bad W.to_come W.silent weather.old self.old proposer.old)
-            (scene W.bad W.to_come W.silent weather.new self.new proposer.new)) }
-        ensures doubt { IfErr result (λ fault. fault ≡ GroupFault.Doubt → Doubts replicas (2 * replicas) (IsAt index ballot)
-            (scene W.bad W.to_come W.silent weather.old self.old proposer.old)
-            (scene W.bad W.to_come W.silent weather.new self.new proposer.new)) }
+            (scene W.told weather.old self.old proposer.old)
+            (scene W.told weather.new self.new proposer.new)) }
+        ensures doubt { IfErr result (λ fault. fault ≡ GroupFault.Doubt →
+            Doubts replicas (2 * replicas) (IsAt index ballot)
+            (scene W.told weather.old self.old proposer.old)
+            (scene W.told weather.new self.new proposer.new)) }
     {
         let message = Message::Ask { index, ballot };
         let Ok(()) = self.send_all(alloc, replicas, proposer, weather, &message) else {
@@ -272,17 +283,18 @@ impl<V: Copies> Net<V> {
     ) -> Result<(), GroupFault>
         requires count { length self.old.acceptors.items ≡ replicas }
         requires promised { is_promised proposer.old ≡ true }
-        ensures endures { Endures (W.bad weather.old) (W.bad weather.new) (W.silent weather.old) (W.silent weather.new) }
+        ensures endures { Endures W.told weather.old weather.new }
         ensures goes { Goes (IsAt index ballot)
-            (scene W.bad W.to_come W.silent weather.old self.old proposer.old)
-            (scene W.bad W.to_come W.silent weather.new self.new proposer.new) }
+            (scene W.told weather.old self.old proposer.old)
+            (scene W.told weather.new self.new proposer.new) }
         ensures chosen { OnOk result (stage_of proposer.new ≡ Stage.Chosen) }
         ensures calm { OnOk result (StaysCalm (2 * replicas) (IsAt index ballot)
-            (scene W.bad W.to_come W.silent weather.old self.old proposer.old)
-            (scene W.bad W.to_come W.silent weather.new self.new proposer.new)) }
-        ensures doubt { IfErr result (λ fault. fault ≡ GroupFault.Doubt → Doubts replicas (2 * replicas) (IsAt index ballot)
-            (scene W.bad W.to_come W.silent weather.old self.old proposer.old)
-            (scene W.bad W.to_come W.silent weather.new self.new proposer.new)) }
+            (scene W.told weather.old self.old proposer.old)
+            (scene W.told weather.new self.new proposer.new)) }
+        ensures doubt { IfErr result (λ fault. fault ≡ GroupFault.Doubt →
+            Doubts replicas (2 * replicas) (IsAt index ballot)
+            (scene W.told weather.old self.old proposer.old)
+            (scene W.told weather.new self.new proposer.new)) }
     {
         let Ok(value) = proposer.value().copy(alloc) else {
             return Err(GroupFault::NoMemory);
@@ -312,17 +324,18 @@ impl<V: Copies> Net<V> {
         ballot: Ballot,
     ) -> Result<(), GroupFault>
         requires { length self.old.acceptors.items ≡ replicas }
-        ensures endures { Endures (W.bad weather.old) (W.bad weather.new) (W.silent weather.old) (W.silent weather.new) }
+        ensures endures { Endures W.told weather.old weather.new }
         ensures goes { Goes (IsAt index ballot)
-            (scene W.bad W.to_come W.silent weather.old self.old proposer.old)
-            (scene W.bad W.to_come W.silent weather.new self.new proposer.new) }
+            (scene W.told weather.old self.old proposer.old)
+            (scene W.told weather.new self.new proposer.new) }
         ensures chosen { OnOk result (stage_of proposer.new ≡ Stage.Chosen) }
         ensures calm { OnOk result (StaysCalm (4 * replicas) (IsAt index ballot)
-            (scene W.bad W.to_come W.silent weather.old self.old proposer.old)
-            (scene W.bad W.to_come W.silent weather.new self.new proposer.new)) }
-        ensures doubt { IfErr result (λ fault. fault ≡ GroupFault.Doubt → Doubts replicas (4 * replicas) (IsAt index ballot)
-            (scene W.bad W.to_come W.silent weather.old self.old proposer.old)
-            (scene W.bad W.to_come W.silent weather.new self.new proposer.new)) }
+            (scene W.told weather.old self.old proposer.old)
+            (scene W.told weather.new self.new proposer.new)) }
+        ensures doubt { IfErr result (λ fault. fault ≡ GroupFault.Doubt →
+            Doubts replicas (4 * replicas) (IsAt index ballot)
+            (scene W.told weather.old self.old proposer.old)
+            (scene W.told weather.new self.new proposer.new)) }
     {
         match self.ask(alloc, replicas, proposer, weather, index, ballot) {
             Ok(()) => self.put(alloc, replicas, proposer, weather, index, ballot),

@@ -1,18 +1,12 @@
 //! What a group is made of, and how it appends.
 
-ghost use Rattle.std.specs.Prelude.{◌≡◌, ℕ, ◌+◌, ◌*◌, ◌^◌, ◌<◌, ◌≤◌, ◌⊎◌, [], ◌∷◌, ◌++◌, length, vec_len, vec_capacity, Some, None, IfOk, IfErr, OnOk, OnErr, IsTrue, true, false};
-ghost use Rattle.slab.specs.Slab.{slab_len};
-ghost use Rattle.outside.specs.Count.{Rose};
-ghost use Rattle.outside.specs.Weather.{is_heard};
-ghost use Rattle.outside.specs.declared.weather.MessageKind.{MessageKind};
-ghost use Rattle.paxos_core.specs.Majority.{IsMajority};
+ghost use Rattle.std.specs.Prelude.{◌≡◌, ◌+◌, ◌^◌, ◌<◌, ◌≤◌, ◌⊎◌, [], ◌∷◌, ◌++◌, length, vec_len, vec_capacity, Some, None, IfOk};
+ghost use Rattle.std.specs.Prelude.{OnOk, OnErr, IsTrue, true, false};
 ghost use Rattle.paxos_core.specs.Proposing.{begins};
-ghost use Rattle.paxos_group.specs.Fates.{IsStill};
 ghost use Rattle.paxos_group.specs.Sound.{ballot_of};
 ghost use Rattle.paxos_group.specs.Formed.{IsFormed, list_of};
 ghost use Rattle.paxos_group.specs.Ledger.{Leaves, ledger_of};
-ghost use Rattle.paxos_group.specs.Steps.{Endures};
-ghost use Rattle.paxos_group.specs.declared.fault.GroupFault.{GroupFault};
+ghost use Rattle.paxos_group.specs.Moments.{Attempts, IsHeard, moment, seen_of};
 
 use crate::fault::{Appended, GroupFault};
 use crate::net::Net;
@@ -50,7 +44,9 @@ impl<V: Copies> Parts<V> {
     fn proposer(&self, alloc: Global, ahead: u64, value: &V) -> Result<Proposer<V>, NoMemory>
         requires index { length self.now.log.items + ahead < 2 ^ 64 }
         requires round { self.now.round + ahead < 2 ^ 64 }
-        ensures { IfOk result (λ proposer. proposer ≡ begins self.now.replicas (length self.now.log.items + ahead) (ballot_of (self.now.round + ahead)) value.now) }
+        ensures { IfOk result
+            (λ proposer. proposer ≡ begins self.now.replicas (length self.now.log.items + ahead)
+            (ballot_of (self.now.round + ahead)) value.now) }
     {
         let ballot = Ballot {
             round: self.round + ahead,
@@ -69,28 +65,24 @@ impl<V: Copies> Parts<V> {
         proposer: &mut Proposer<V>,
         weather: &mut W,
     ) -> Result<(), GroupFault>
-        requires formed { IsFormed self.old.replicas self.old.net self.old.log.items None self.old.round ⊎ IsFormed self.old.replicas self.old.net self.old.log.items (Some own) self.old.round }
-        requires proposer { proposer.old ≡ begins self.old.replicas (length self.old.log.items) (ballot_of self.old.round) own }
+        requires formed { IsFormed self.old.replicas self.old.net self.old.log.items None
+            self.old.round ⊎ IsFormed self.old.replicas self.old.net self.old.log.items (Some own)
+            self.old.round }
+        requires proposer { proposer.old ≡ begins self.old.replicas (length self.old.log.items)
+            (ballot_of self.old.round) own }
         requires room { vec_len self.old.log < vec_capacity self.old.log }
         requires round { self.old.round + 1 < 2 ^ 64 }
-        ensures endures { Endures (W.bad weather.old) (W.bad weather.new) (W.silent weather.old) (W.silent weather.new) }
-        ensures formed { IsFormed self.new.replicas self.new.net self.new.log.items self.new.pending self.new.round }
+        ensures attempts { Attempts W.told 4 (moment (seen_of self.old) weather.old)
+            (moment (seen_of self.new) weather.new) result }
+        ensures formed { IsFormed self.new.replicas self.new.net self.new.log.items
+            self.new.pending self.new.round }
         ensures log { OnOk result (self.new.log.items ≡ self.old.log.items ++ own ∷ []) }
         ensures none_pending { OnOk result (self.new.pending ≡ None) }
         ensures same_log { OnErr result (self.new.log.items ≡ self.old.log.items) }
         ensures pending { OnErr result (self.new.pending ≡ Some own) }
         ensures round { self.new.round ≡ self.old.round + 1 }
         ensures replicas { self.new.replicas ≡ self.old.replicas }
-        ensures store { self.new.net.store ≡ self.old.net.store }
         ensures capacity { vec_capacity self.new.log ≡ vec_capacity self.old.log }
-
-        // It is settled only where a majority is heard, and in doubt only where a majority had a bad fate.
-        ensures heard { OnOk result (IsMajority self.old.replicas (λ r. is_heard (W.silent weather.old) self.old.net.store r ≡ true)) }
-        ensures doubt { IfErr result (λ fault. fault ≡ GroupFault.Doubt → IsMajority self.old.replicas (λ r. Rose (W.bad weather.old self.old.net.store r) (W.bad weather.new self.old.net.store r))) }
-        ensures no_doubt { IfErr result (λ fault. fault ≡ GroupFault.Doubt → (n : ℕ) → IsStill (slab_len self.old.net.held) (W.to_come weather.old) (4 * self.old.replicas + n) → ⊥) }
-        ensures still { OnOk result ((n : ℕ) → IsStill (slab_len self.old.net.held) (W.to_come weather.old) (4 * self.old.replicas + n) → IsStill (slab_len self.new.net.held) (W.to_come weather.new) n) }
-        ensures rises { (r : ℕ) → W.bad weather.old self.old.net.store r ≤ W.bad weather.new self.old.net.store r }
-        ensures same_silence { (r : ℕ) (k : MessageKind) → W.silent weather.new self.old.net.store r k ≡ W.silent weather.old self.old.net.store r k }
     {
         let index = self.next_index();
         let ballot = Ballot {
@@ -123,21 +115,22 @@ impl<V: Copies> Parts<V> {
         proposer: &mut Proposer<V>,
         weather: &mut W,
     ) -> Appended
-        requires formed { IsFormed self.old.replicas self.old.net self.old.log.items None self.old.round }
-        requires proposer { proposer.old ≡ begins self.old.replicas (length self.old.log.items) (ballot_of self.old.round) own }
+        requires formed { IsFormed self.old.replicas self.old.net self.old.log.items None
+            self.old.round }
+        requires proposer { proposer.old ≡ begins self.old.replicas (length self.old.log.items)
+            (ballot_of self.old.round) own }
         requires room { vec_len self.old.log < vec_capacity self.old.log }
         requires round { self.old.round + 1 < 2 ^ 64 }
-        ensures endures { Endures (W.bad weather.old) (W.bad weather.new) (W.silent weather.old) (W.silent weather.new) }
-        ensures formed { IsFormed self.new.replicas self.new.net self.new.log.items self.new.pending self.new.round }
-        ensures leaves { Leaves result.own result.doubted (record { log = self.old.log.items; pending = None; round = self.old.round }) (ledger_of self.new) own result }
+        ensures attempts { Attempts W.told 8 (moment (seen_of self.old) weather.old)
+            (moment (seen_of self.new) weather.new) result.own }
+        ensures formed { IsFormed self.new.replicas self.new.net self.new.log.items
+            self.new.pending self.new.round }
+        ensures leaves { Leaves result.own result.doubted
+            (record { log = self.old.log.items; pending = None; round = self.old.round })
+            (ledger_of self.new) own result }
         ensures asked { OnErr result.own (result.doubted ≡ true) }
-        ensures replicas { self.new.replicas ≡ self.old.replicas }
-        ensures store { self.new.net.store ≡ self.old.net.store }
-        ensures heard { OnOk result.own (IsMajority self.old.replicas (λ r. is_heard (W.silent weather.old) self.old.net.store r ≡ true)) }
-        ensures late_heard { IsTrue result.late → IsMajority self.old.replicas (λ r. is_heard (W.silent weather.old) self.old.net.store r ≡ true) }
-        ensures doubt { IfErr result.own (λ fault. fault ≡ GroupFault.Doubt → IsMajority self.old.replicas (λ r. Rose (W.bad weather.old self.old.net.store r) (W.bad weather.new self.old.net.store r))) }
-        ensures no_doubt { IfErr result.own (λ fault. fault ≡ GroupFault.Doubt → (n : ℕ) → IsStill (slab_len self.old.net.held) (W.to_come weather.old) (8 * self.old.replicas + n) → ⊥) }
-        ensures still { OnOk result.own ((n : ℕ) → IsStill (slab_len self.old.net.held) (W.to_come weather.old) (8 * self.old.replicas + n) → IsStill (slab_len self.new.net.held) (W.to_come weather.new) n) }
+        ensures late_heard { IsTrue result.late →
+            IsHeard W.told (moment (seen_of self.old) weather.old) }
     {
         match self.settle(alloc, own, proposer, weather) {
             Ok(()) => Appended {
@@ -163,22 +156,24 @@ impl<V: Copies> Parts<V> {
         proposer: &mut Proposer<V>,
         weather: &mut W,
     ) -> Appended
-        requires formed { IsFormed self.old.replicas self.old.net self.old.log.items (Some pending) self.old.round }
-        requires late { late.old ≡ begins self.old.replicas (length self.old.log.items) (ballot_of self.old.round) pending }
-        requires proposer { proposer.old ≡ begins self.old.replicas (length self.old.log.items + 1) (ballot_of (self.old.round + 1)) own }
+        requires formed { IsFormed self.old.replicas self.old.net self.old.log.items (Some pending)
+            self.old.round }
+        requires late { late.old ≡ begins self.old.replicas (length self.old.log.items)
+            (ballot_of self.old.round) pending }
+        requires proposer { proposer.old ≡ begins self.old.replicas (length self.old.log.items + 1)
+            (ballot_of (self.old.round + 1)) own }
         requires room { vec_len self.old.log + 1 < vec_capacity self.old.log }
         requires round { self.old.round + 2 < 2 ^ 64 }
-        ensures endures { Endures (W.bad weather.old) (W.bad weather.new) (W.silent weather.old) (W.silent weather.new) }
-        ensures formed { IsFormed self.new.replicas self.new.net self.new.log.items self.new.pending self.new.round }
-        ensures leaves { Leaves result.own result.doubted (record { log = self.old.log.items; pending = Some pending; round = self.old.round }) (ledger_of self.new) own result }
+        ensures attempts { Attempts W.told 8 (moment (seen_of self.old) weather.old)
+            (moment (seen_of self.new) weather.new) result.own }
+        ensures formed { IsFormed self.new.replicas self.new.net self.new.log.items
+            self.new.pending self.new.round }
+        ensures leaves { Leaves result.own result.doubted
+            (record { log = self.old.log.items; pending = Some pending; round = self.old.round })
+            (ledger_of self.new) own result }
         ensures asked { OnErr result.own (result.doubted ≡ true) }
-        ensures replicas { self.new.replicas ≡ self.old.replicas }
-        ensures store { self.new.net.store ≡ self.old.net.store }
-        ensures heard { OnOk result.own (IsMajority self.old.replicas (λ r. is_heard (W.silent weather.old) self.old.net.store r ≡ true)) }
-        ensures late_heard { IsTrue result.late → IsMajority self.old.replicas (λ r. is_heard (W.silent weather.old) self.old.net.store r ≡ true) }
-        ensures doubt { IfErr result.own (λ fault. fault ≡ GroupFault.Doubt → IsMajority self.old.replicas (λ r. Rose (W.bad weather.old self.old.net.store r) (W.bad weather.new self.old.net.store r))) }
-        ensures no_doubt { IfErr result.own (λ fault. fault ≡ GroupFault.Doubt → (n : ℕ) → IsStill (slab_len self.old.net.held) (W.to_come weather.old) (8 * self.old.replicas + n) → ⊥) }
-        ensures still { OnOk result.own ((n : ℕ) → IsStill (slab_len self.old.net.held) (W.to_come weather.old) (8 * self.old.replicas + n) → IsStill (slab_len self.new.net.held) (W.to_come weather.new) n) }
+        ensures late_heard { IsTrue result.late →
+            IsHeard W.told (moment (seen_of self.old) weather.old) }
     {
         match self.settle(alloc, pending, late, weather) {
             Ok(()) => match self.settle(alloc, own, proposer, weather) {
@@ -216,7 +211,9 @@ impl<V: Copies> Parts<V> {
         requires log { length self.old.log.items < 2 ^ 63 }
         requires round { self.old.round < 2 ^ 63 }
         ensures own { IfOk result (λ ready. ready.0 ≡ command.now) }
-        ensures proposer { IfOk result (λ ready. ready.1 ≡ begins self.old.replicas (length self.old.log.items + length (list_of self.old.pending))
+        ensures proposer { IfOk result
+            (λ ready. ready.1 ≡ begins self.old.replicas
+            (length self.old.log.items + length (list_of self.old.pending))
             (ballot_of (self.old.round + length (list_of self.old.pending))) command.now) }
         ensures room { OnOk result (vec_len self.new.log + 2 ≤ vec_capacity self.new.log) }
         ensures log { self.new.log.items ≡ self.old.log.items }
@@ -236,20 +233,20 @@ impl<V: Copies> Parts<V> {
         command: &V,
         weather: &mut W,
     ) -> Appended
-        requires formed { IsFormed self.old.replicas self.old.net self.old.log.items self.old.pending self.old.round }
+        requires formed { IsFormed self.old.replicas self.old.net self.old.log.items
+            self.old.pending self.old.round }
         requires log { length self.old.log.items < 2 ^ 63 }
         requires round { self.old.round < 2 ^ 63 }
-        ensures endures { Endures (W.bad weather.old) (W.bad weather.new) (W.silent weather.old) (W.silent weather.new) }
-        ensures formed { IsFormed self.new.replicas self.new.net self.new.log.items self.new.pending self.new.round }
-        ensures leaves { Leaves result.own result.doubted (ledger_of self.old) (ledger_of self.new) command.now result }
+        ensures attempts { Attempts W.told 8 (moment (seen_of self.old) weather.old)
+            (moment (seen_of self.new) weather.new) result.own }
+        ensures formed { IsFormed self.new.replicas self.new.net self.new.log.items
+            self.new.pending self.new.round }
+        ensures leaves { Leaves result.own result.doubted (ledger_of self.old) (ledger_of self.new)
+            command.now result }
         ensures untouched { OnErr result.own (result.doubted ≡ false → self.new.net ≡ self.old.net) }
-        ensures replicas { self.new.replicas ≡ self.old.replicas }
-        ensures store { self.new.net.store ≡ self.old.net.store }
-        ensures heard { OnOk result.own (IsMajority self.old.replicas (λ r. is_heard (W.silent weather.old) self.old.net.store r ≡ true)) }
-        ensures late_heard { IsTrue result.late → IsMajority self.old.replicas (λ r. is_heard (W.silent weather.old) self.old.net.store r ≡ true) }
-        ensures doubt { IfErr result.own (λ fault. fault ≡ GroupFault.Doubt → IsMajority self.old.replicas (λ r. Rose (W.bad weather.old self.old.net.store r) (W.bad weather.new self.old.net.store r))) }
-        ensures no_doubt { IfErr result.own (λ fault. fault ≡ GroupFault.Doubt → (n : ℕ) → IsStill (slab_len self.old.net.held) (W.to_come weather.old) (8 * self.old.replicas + n) → ⊥) }
-        ensures still { OnOk result.own ((n : ℕ) → IsStill (slab_len self.old.net.held) (W.to_come weather.old) (8 * self.old.replicas + n) → IsStill (slab_len self.new.net.held) (W.to_come weather.new) n) }
+        ensures not_asked { OnErr result.own (result.doubted ≡ false → weather.new ≡ weather.old) }
+        ensures late_heard { IsTrue result.late →
+            IsHeard W.told (moment (seen_of self.old) weather.old) }
     {
         let Ok((own, mut proposer)) = self.prepare(alloc, command) else {
             return UNASKED;

@@ -5,4 +5,5 @@ pub returns-clause-came : goal.returns-clause-came
 returns-clause-came g c = came_told c.args.message.now c.args.proposer.now c.on_message.new.self c.in_ok-on_message.ensures.told
 
 pub returns-clause-counted : goal.returns-clause-counted
-returns-clause-counted g c = told_counted c.args.message.now c.args.proposer.now c.on_message.new.self c.in_ok-on_message.ensures.told
+returns-clause-counted g c =
+    told_counted c.args.message.now c.args.proposer.now c.on_message.new.self c.in_ok-on_message.ensures.told

@@ -10,14 +10,16 @@ returns-clause-count g c =
     let p = c.self.inside.parts in
     let lt : c.args.index < length p.log.items = subst (λ s. c.args.index < length s.log) (sym c.self.view_is) c.requires in
     subst (λ s. IsCount s.replicas (λ r. (b : Ballot) × Holds s c.args.index r b) c.accepted_count.result) c.self.view_is
-    (holders_count p.replicas p.net p.log.items p.pending p.round c.args.index c.accepted_count.result c.self.invariant lt (c.accepted_count.ensures ∙ ap (λ xs. count_by (accepts c.args.index) xs) c.deref.ensures.value))
+    (holders_count p.replicas p.net p.log.items p.pending p.round c.args.index c.accepted_count.result c.self.invariant lt
+    (c.accepted_count.ensures ∙ ap (λ xs. count_by (accepts c.args.index) xs) c.deref.ensures.value))
 
 pub returns-clause-majority : goal.returns-clause-majority
 returns-clause-majority g c =
     let p = c.self.inside.parts in
     let lt : c.args.index < length p.log.items = subst (λ s. c.args.index < length s.log) (sym c.self.view_is) c.requires in
     subst (λ s. s.replicas < 2 * c.accepted_count.result) c.self.view_is
-    (holders_majority p.replicas p.net p.log.items p.pending p.round c.args.index c.accepted_count.result c.self.invariant lt (c.accepted_count.ensures ∙ ap (λ xs. count_by (accepts c.args.index) xs) c.deref.ensures.value))
+    (holders_majority p.replicas p.net p.log.items p.pending p.round c.args.index c.accepted_count.result c.self.invariant lt
+    (c.accepted_count.ensures ∙ ap (λ xs. count_by (accepts c.args.index) xs) c.deref.ensures.value))
 
 pub returns-clause-settled : goal.returns-clause-settled
 returns-clause-settled g c =

@@ -1,24 +1,23 @@
-use Rattle.std.proofs.Common.{◌+◌, ◌*◌, sym, subst}
-use Rattle.slab.specs.Slab.{slab_len}
-use Rattle.paxos_group.specs.Fates.{IsStill}
-use Rattle.paxos_group.proofs.Stillness.{still_split}
+use Rattle.std.proofs.Common.{◌≤◌, ◌++◌, ◌∷◌, [], ◌≡◌, length, length-append, ap, arith}
+use Rattle.paxos_group.specs.Moments.{moment, seen_of}
+use Rattle.paxos_group.proofs.Attempting.{attempts_more, attempts_twice}
 use Rattle.paxos_group.proofs.parts.Parts.append_after.Goals as goal
 
-pub returns-in-Ok-settle-clause-still : goal.returns-in-Ok-settle-clause-still
-returns-in-Ok-settle-clause-still g c = λ n still.
-    let w = g.W.Weather in
-    let r = c.args.self.now.replicas in
-    let mid = c.in-Ok.ensures.still (4 * r + n) (still_split (slab_len c.args.self.now.net.held) r n _ still) in
-    c.in-Ok-settle.ensures.still n (subst (λ q. IsStill (slab_len c.settle.new.self.net.held) (w.to_come c.settle.new.weather) (4 * q + n)) (sym c.settle.ensures.replicas) mid)
+pub returns-in-Ok-settle-clause-attempts : goal.returns-in-Ok-settle-clause-attempts
+returns-in-Ok-settle-clause-attempts g c =
+    let len : length c.settle.new.self.log.items ≡ length (c.args.self.now.log.items ++ c.args.pending ∷ []) =
+    ap length c.in-Ok.ensures.log in
+    attempts_twice g.W.Weather.told (moment (seen_of c.args.self.now) c.args.weather.now) _ _ _
+    (moment (seen_of c.settle.new.self) c.settle.new.weather) c.in-Ok.ensures.attempts c.in-Ok-settle.ensures.attempts
+    (omega (arith, length-append c.args.self.now.log.items (c.args.pending ∷ [])))
 
-pub returns-in-Err-settle-clause-no_doubt : goal.returns-in-Err-settle-clause-no_doubt
-returns-in-Err-settle-clause-no_doubt g c = λ is n still.
-    let w = g.W.Weather in
-    let r = c.args.self.now.replicas in
-    let mid = c.in-Ok.ensures.still (4 * r + n) (still_split (slab_len c.args.self.now.net.held) r n _ still) in
-    c.in-Err-settle.ensures.no_doubt is n (subst (λ q. IsStill (slab_len c.settle.new.self.net.held) (w.to_come c.settle.new.weather) (4 * q + n)) (sym c.settle.ensures.replicas) mid)
+pub returns-in-Err-settle-clause-attempts : goal.returns-in-Err-settle-clause-attempts
+returns-in-Err-settle-clause-attempts g c =
+    let len : length c.settle.new.self.log.items ≡ length (c.args.self.now.log.items ++ c.args.pending ∷ []) =
+    ap length c.in-Ok.ensures.log in
+    attempts_twice g.W.Weather.told (moment (seen_of c.args.self.now) c.args.weather.now) _ _ _
+    (moment (seen_of c.settle.new.self) c.settle.new.weather) c.in-Ok.ensures.attempts c.in-Err-settle.ensures.attempts
+    (omega (arith, length-append c.args.self.now.log.items (c.args.pending ∷ [])))
 
-pub returns-in-Err-clause-no_doubt : goal.returns-in-Err-clause-no_doubt
-returns-in-Err-clause-no_doubt g c = λ is n still.
-    let r = c.args.self.now.replicas in
-    c.in-Err.ensures.no_doubt is (4 * r + n) (still_split (slab_len c.args.self.now.net.held) r n _ still)
+pub returns-in-Err-clause-attempts : goal.returns-in-Err-clause-attempts
+returns-in-Err-clause-attempts g c = attempts_more g.W.Weather.told _ _ _ c.in-Err.ensures.attempts
