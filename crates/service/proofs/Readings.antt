@@ -1,20 +1,28 @@
 -- A text has one reading.
-use Rattle.std.proofs.Common.{◌≡◌, ℕ, true, false, Bool, cond, List, [], ◌∷◌, ◌++◌, refl, sym, ◌∙◌, ap, append_assoc}
+use Rattle.std.proofs.Common.{◌≡◌, ℕ, Bool, List, [], ◌∷◌, ◌++◌, map, refl, sym, ◌∙◌, ap, subst, append_assoc}
 use Rattle.std.proofs.lemmas.List.{append-nil}
+use Rattle.nfs3_types.specs.declared.cred.Cred.{Cred}
 use Rattle.nfs3_types.specs.declared.moment.Moment.{Moment}
+use Rattle.nfs3_types.specs.Calls.{Call}
 use Rattle.rpc_route.specs.Immediate.{Immediate, Bad, Replied, Needs, immediate_reply}
 use Rattle.service.specs.declared.session.SessionEnd.{SessionEnd}
-use Rattle.service.specs.declared.session.SessionEnd.TheVariants.{Done, ReadFault, WriteFault, CutRecord, TooLong, BadRecord, ManyReads}
-use Rattle.service.specs.Turns.{Answering, Memory, Turn, contents, memories, reply_by, tree_by, needs_tree, needs_moment, moment_of, moments_of, reply_to, tree_after, transcript, tree_behind, no_reply}
+use Rattle.service.specs.declared.session.SessionEnd.TheVariants.{Done, ReadFault, WriteFault, CutRecord, TooLong, BadRecord}
+use Rattle.service.specs.declared.session.SessionEnd.TheVariants.{ManyReads}
+use Rattle.service.specs.Turns.{Answering, Outcome, Ready, Told, Starved, Turn, Tells, TellsBy, TellsCall, TellsTurn, contents}
+use Rattle.service.specs.Turns.{cred_of, moment_of, moments_of, no_reply, reply_to, written}
+use Rattle.service.specs.Transcript.{is_starved, starved}
 use Rattle.service.specs.Course.{Course, course}
-use Rattle.service.specs.Session.{EndsAs, ConsistsOf, Follows, Wrote, IsByText, IsFront}
+use Rattle.service.specs.Session.{BreaksIn, ConsistsOf, EndsAs, Follows, IsByText, IsFront, Wrote}
+use Rattle.service.specs.Readings.{IsSame, Reading}
+use Rattle.service.proofs.TurnSteps.{written-append}
 
 -- ---- by the text
 
 consists-answered : (c : Course) (records : List (List ℕ)) (end : SessionEnd) → ConsistsOf c records end → c.answered ≡ records
 consists-answered c records end all = ap (λ (d : Course). d.answered) all
 
-answered-are : (end : SessionEnd) (c : Course) (records : List (List ℕ)) → Follows end c records → (end ≡ WriteFault → ⊥) → c.answered ≡ records
+answered-are : (end : SessionEnd) (c : Course) (records : List (List ℕ)) → Follows end c records → (end ≡ WriteFault → ⊥)
+    → c.answered ≡ records
 answered-are Done c records follows not = consists-answered c records Done follows
 answered-are CutRecord c records follows not = consists-answered c records CutRecord follows
 answered-are TooLong c records follows not = consists-answered c records TooLong follows
@@ -23,7 +31,8 @@ answered-are ReadFault c records follows not = consists-answered c records c.end
 answered-are ManyReads c records follows not = consists-answered c records c.end follows.all
 answered-are WriteFault c records follows not = absurd (not refl)
 
-pub follows-by_text : (end : SessionEnd) (c : Course) (records : List (List ℕ)) → Follows end c records → IsByText end → c.end ≡ end
+pub follows-by_text : (end : SessionEnd) (c : Course) (records : List (List ℕ)) → Follows end c records → IsByText end
+    → c.end ≡ end
 follows-by_text Done c records follows by = ap (λ (d : Course). d.end) follows
 follows-by_text CutRecord c records follows by = ap (λ (d : Course). d.end) follows
 follows-by_text TooLong c records follows by = ap (λ (d : Course). d.end) follows
@@ -32,14 +41,15 @@ follows-by_text ReadFault c records follows by = absurd by
 follows-by_text ManyReads c records follows by = absurd by
 follows-by_text WriteFault c records follows by = absurd by
 
-wrote-is : (end : SessionEnd) (bytes all : List ℕ) → Wrote end bytes all → (end ≡ WriteFault → ⊥) → bytes ≡ all
-wrote-is Done bytes all w not = w
-wrote-is CutRecord bytes all w not = w
-wrote-is TooLong bytes all w not = w
-wrote-is BadRecord bytes all w not = w
-wrote-is ReadFault bytes all w not = w
-wrote-is ManyReads bytes all w not = w
-wrote-is WriteFault bytes all w not = absurd (not refl)
+wrote-is : (fsid : ℕ) (end : SessionEnd) (turns : List Turn) (bytes : List ℕ) → Wrote fsid end turns bytes
+    → (end ≡ WriteFault → ⊥) → bytes ≡ written fsid turns
+wrote-is fsid Done turns bytes w not = w
+wrote-is fsid CutRecord turns bytes w not = w
+wrote-is fsid TooLong turns bytes w not = w
+wrote-is fsid BadRecord turns bytes w not = w
+wrote-is fsid ReadFault turns bytes w not = w
+wrote-is fsid ManyReads turns bytes w not = w
+wrote-is fsid WriteFault turns bytes w not = absurd (not refl)
 
 -- ---- turns that begin alike
 
@@ -52,103 +62,152 @@ others-of x y xs ys e = cc
 none-begins : {X : Type 0} (x : X) (xs : List X) → [] ≡ x ∷ xs → ⊥
 none-begins x xs e = cc
 
--- what stands behind a moment that is there where it is needed
-record MomentsAgree (needs : Bool) (m n : Moment) (ms ns : List Moment) : Type 0 where
-  first : needs ≡ true → m ≡ n
-  others : ms ≡ ns
+turn-is : (t u : Turn) → t.content ≡ u.content → t.outcome ≡ u.outcome → t ≡ u
+turn-is t u e f = ap (λ (c : List ℕ). record { content = c; outcome = t.outcome }) e ∙ ap
+    (λ (o : Outcome). record { content = u.content; outcome = o }) f
 
-moments-agree : (needs : Bool) (m n : Moment) (ms ns : List Moment) → cond needs (m ∷ []) [] ++ ms ≡ cond needs (n ∷ []) [] ++ ns → MomentsAgree needs m n ms ns
-moments-agree true m n ms ns e = record { first = λ _. first-of m n ms ns e; others = others-of m n ms ns e }
-moments-agree false m n ms ns e = record { first = λ (h : false ≡ true). absurd (cc); others = e }
+module _ {T : Type 0} (a : Answering T) where
+  -- two outcomes of one record on one tree, with what their moments come before
+  record IsLike (x y : T) (o p : Outcome) (ms ns : List Moment) : Type 0 where
+    outcome : o ≡ p
+    tree : x ≡ y
+    moments : ms ≡ ns
 
-module _ {T : Type 0} (a : Answering T) (fsid : ℕ) where
-  -- one turn like another
-  record IsLike (tree : T) (t u : Turn) : Type 0 where
-    reply : reply_to a fsid tree u ≡ reply_to a fsid tree t
-    tree_is : tree_after a fsid tree u ≡ tree_after a fsid tree t
-
-  like-by : (tree : T) (t u : Turn) (i : Immediate) → u.content ≡ t.content → u.memory ≡ t.memory → (needs_tree i ≡ true → u.moment ≡ t.moment) → (reply_by a tree u i ≡ reply_by a tree t i) × (tree_by a tree u i ≡ tree_by a tree t i)
-  like-by tree t u (Bad fault) content memory moment = (refl, refl)
-  like-by tree t u (Replied reply) content memory moment = (rw (content, memory) refl, refl)
-  like-by tree t u (Needs xid caller lent) content memory moment = let same = moment refl in (rw (memory, same) refl, rw (memory, same) refl)
-
-  like : (tree : T) (t u : Turn) → u.content ≡ t.content → u.memory ≡ t.memory → (needs_moment fsid t.content ≡ true → u.moment ≡ t.moment) → IsLike tree t u
-  unfolding reply_to tree_after
-  like tree t u content memory moment =
-      let same = like-by tree t u (immediate_reply fsid t.content) content memory moment in
+  like-call : (tree x y : T) (cred : Cred) (lent : Call) (o p : Outcome) (ms ns : List Moment) → TellsCall a tree x cred lent o
+      → TellsCall a tree y cred lent p → is_starved o ≡ is_starved p → moment_of o ++ ms ≡ moment_of p ++ ns
+      → IsLike x y o p ms ns
+  like-call tree x y cred lent Ready p ms ns first then st e = absurd first
+  like-call tree x y cred lent (Told m r) Ready ms ns first then st e = absurd then
+  like-call tree x y cred lent (Starved m) Ready ms ns first then st e = absurd then
+  like-call tree x y cred lent (Told m r) (Starved n) ms ns first then st e = absurd cc
+  like-call tree x y cred lent (Starved m) (Told n s) ms ns first then st e = absurd cc
+  like-call tree x y cred lent (Starved m) (Starved n) ms ns first then st e = record {
+    outcome = ap Starved (first-of m n ms ns e);
+    tree = first ∙ sym then;
+    moments = others-of m n ms ns e;
+  }
+  like-call tree x y cred lent (Told m r) (Told n s) ms ns first then st e =
+      let same : m ≡ n = first-of m n ms ns e in
+      let reply : r ≡ s = first.0 ∙ (ap (λ (k : Moment). a.answer tree cred lent k) same ∙ sym then.0) in
       record {
-        reply = ap (λ (c : List ℕ). reply_by a tree u (immediate_reply fsid c)) content ∙ same.0;
-        tree_is = ap (λ (c : List ℕ). tree_by a tree u (immediate_reply fsid c)) content ∙ same.1;
+        outcome = ap (λ (k : Moment). Told k r) same ∙ ap (Told n) reply;
+        tree = first.1 ∙ (ap (λ (k : Moment). a.after tree cred lent k) same ∙ sym then.1);
+        moments = others-of m n ms ns e;
       }
 
-  -- the turns s are like r, and then come others
-  pub record GoesOnFrom (tree : T) (r s : List Turn) (c : List (List ℕ)) : Type 0 where
-    pub others : List Turn
-    pub records : contents others ≡ c
-    pub bytes : transcript a fsid tree s ≡ transcript a fsid tree r ++ transcript a fsid (tree_behind a fsid tree r) others
-    pub behind : tree_behind a fsid tree s ≡ tree_behind a fsid (tree_behind a fsid tree r) others
+  like : (tree x y : T) (i : Immediate) (o p : Outcome) (ms ns : List Moment) → TellsBy a tree x i o → TellsBy a tree y i p
+      → is_starved o ≡ is_starved p → moment_of o ++ ms ≡ moment_of p ++ ns → IsLike x y o p ms ns
+  like tree x y (Bad fault) o p ms ns first then st e = absurd first
+  like tree x y (Replied reply) o p ms ns first then st e = record {
+    outcome = first.0 ∙ sym then.0;
+    tree = first.1 ∙ sym then.1;
+    moments = sym (ap (λ (q : Outcome). moment_of q ++ ms) first.0) ∙ (e ∙ ap (λ (q : Outcome). moment_of q ++ ns) then.0);
+  }
+  like tree x y (Needs xid caller lent) o p ms ns first then st e =
+      like-call tree x y (cred_of caller) lent o p ms ns first then st e
 
-  pub goes_on-from : (tree : T) (r s : List Turn) (c : List (List ℕ)) (m : List Moment) (n : List Memory) → contents s ≡ contents r ++ c → moments_of fsid s ≡ moments_of fsid r ++ m → memories s ≡ memories r ++ n → GoesOnFrom tree r s c
-  goes_on-from tree [] s c m n cs ms ns = record { others = s; records = cs; bytes = refl; behind = refl }
-  goes_on-from tree (t ∷ r) [] c m n cs ms ns = absurd (none-begins t.content (contents r ++ c) cs)
-  goes_on-from tree (t ∷ r) (u ∷ s) c m n cs ms ns =
+  -- the turns s are r, and then come others
+  pub record GoesOnFrom (x y : T) (r s : List Turn) (c : List (List ℕ)) : Type 0 where
+    pub others : List Turn
+    pub turns : s ≡ r ++ others
+    pub records : contents others ≡ c
+    pub tells : Tells a x y others
+
+  pub goes_on-from : (tree x y : T) (r s : List Turn) (c : List (List ℕ)) (m : List Moment) (n : List Bool) → Tells a tree x r
+      → Tells a tree y s
+      → contents s ≡ contents r ++ c → moments_of s ≡ moments_of r ++ m → starved s ≡ starved r ++ n → GoesOnFrom x y r s c
+  unfolding TellsTurn
+  goes_on-from tree x y [] s c m n first then cs ms ns =
+      record { others = s; turns = refl; records = cs; tells = subst (λ (t : T). Tells a t y s) (sym first) then }
+  goes_on-from tree x y (t ∷ r) [] c m n first then cs ms ns = absurd (none-begins t.content (contents r ++ c) cs)
+  goes_on-from tree x y (t ∷ r) (u ∷ s) c m n first then cs ms ns =
       let content : u.content ≡ t.content = first-of u.content t.content (contents s) (contents r ++ c) cs in
-      let memory : u.memory ≡ t.memory = first-of u.memory t.memory (memories s) (memories r ++ n) ns in
-      let grouped : moment_of fsid u ++ moments_of fsid s ≡ moment_of fsid t ++ (moments_of fsid r ++ m) = ms ∙ append_assoc (moment_of fsid t) (moments_of fsid r) m in
-      let agree = moments-agree (needs_moment fsid t.content) u.moment t.moment (moments_of fsid s) (moments_of fsid r ++ m)
-      (sym (ap (λ (k : List ℕ). cond (needs_moment fsid k) (u.moment ∷ []) [] ++ moments_of fsid s) content) ∙ grouped) in
-      let same = like tree t u content memory agree.first in
-      let next = tree_after a fsid tree t in
-      let rest = goes_on-from next r s c m n (others-of u.content t.content (contents s) (contents r ++ c) cs) agree.others (others-of u.memory t.memory (memories s) (memories r ++ n) ns) in
+      let starve : is_starved u.outcome ≡ is_starved t.outcome =
+      first-of (is_starved u.outcome) (is_starved t.outcome) (starved s) (starved r ++ n) ns in
+      let grouped : moment_of t.outcome ++ (moments_of r ++ m) ≡ moment_of u.outcome ++ moments_of s =
+      sym (ms ∙ append_assoc (moment_of t.outcome) (moments_of r) m) in
+      let tells : TellsBy a tree then.0 (immediate_reply a.fsid t.content) u.outcome =
+      subst (λ (k : List ℕ). TellsBy a tree then.0 (immediate_reply a.fsid k) u.outcome) content then.1 in
+      let same = like tree first.0 then.0 (immediate_reply a.fsid t.content) t.outcome u.outcome (moments_of r ++ m)
+      (moments_of s) first.1 tells (sym starve) grouped in
+      let rest = goes_on-from first.0 x y r s c m n first.2 (subst (λ (k : T). Tells a k y s) (sym same.tree) then.2)
+      (others-of u.content t.content (contents s) (contents r ++ c) cs) (sym same.moments)
+      (others-of (is_starved u.outcome) (is_starved t.outcome) (starved s) (starved r ++ n) ns) in
       record {
         others = rest.others;
+        turns = ap (λ (k : Turn). k ∷ s) (turn-is u t content (sym same.outcome)) ∙ ap (λ (xs : List Turn). t ∷ xs) rest.turns;
         records = rest.records;
-        bytes = ap (λ (x : T). reply_to a fsid tree u ++ transcript a fsid x s) same.tree_is
-            ∙ (ap (λ (xs : List ℕ). xs ++ transcript a fsid next s) same.reply
-            ∙ (ap (λ (xs : List ℕ). reply_to a fsid tree t ++ xs) rest.bytes
-            ∙ sym (append_assoc (reply_to a fsid tree t) (transcript a fsid next r) (transcript a fsid (tree_behind a fsid next r) rest.others))));
-        behind = ap (λ (x : T). tree_behind a fsid x s) same.tree_is ∙ rest.behind;
+        tells = rest.tells;
       }
 
   -- turns of the same records, moments and wants of memory
-  pub record IsSame (tree : T) (r s : List Turn) : Type 0 where
-    pub bytes : transcript a fsid tree r ≡ transcript a fsid tree s
-    pub behind : tree_behind a fsid tree r ≡ tree_behind a fsid tree s
+  record AreSame (x y : T) (r s : List Turn) : Type 0 where
+    turns : r ≡ s
+    behind : x ≡ y
 
-  same-nil : (tree : T) (r s others : List Turn) → contents others ≡ [] → transcript a fsid tree s ≡ transcript a fsid tree r ++ transcript a fsid (tree_behind a fsid tree r) others → tree_behind a fsid tree s ≡ tree_behind a fsid (tree_behind a fsid tree r) others → IsSame tree r s
-  same-nil tree r s [] none bytes behind = record { bytes = sym (bytes ∙ append-nil (transcript a fsid tree r)); behind = sym behind }
-  same-nil tree r s (t ∷ others) none bytes behind = absurd (none-begins t.content (contents others) (sym none))
+  same-nil : (x y : T) (r s others : List Turn) → contents others ≡ [] → s ≡ r ++ others → Tells a x y others → AreSame x y r s
+  same-nil x y r s [] none turns tells = record { turns = sym (turns ∙ append-nil r); behind = sym tells }
+  same-nil x y r s (t ∷ others) none turns tells = absurd (none-begins t.content (contents others) (sym none))
 
-  pub same-turns : (tree : T) (r s : List Turn) → contents r ≡ contents s → moments_of fsid r ≡ moments_of fsid s → memories r ≡ memories s → IsSame tree r s
-  same-turns tree r s cs ms ns =
-      let on = goes_on-from tree r s [] [] [] (sym cs ∙ sym (append-nil (contents r))) (sym ms ∙ sym (append-nil (moments_of fsid r))) (sym ns ∙ sym (append-nil (memories r))) in
-      same-nil tree r s on.others on.records on.bytes on.behind
+  same-turns : (tree x y : T) (r s : List Turn) → Tells a tree x r → Tells a tree y s → contents r ≡ contents s
+      → moments_of r ≡ moments_of s → starved r ≡ starved s → AreSame x y r s
+  same-turns tree x y r s first then cs ms ns =
+      let on = goes_on-from tree x y r s [] [] [] first then (sym cs ∙ sym (append-nil (contents r)))
+      (sym ms ∙ sym (append-nil (moments_of r))) (sym ns ∙ sym (append-nil (starved r))) in
+      same-nil x y r s on.others on.records on.turns on.tells
 
   -- ---- two sessions on one text
 
-  pub one_records : (tree tree' : T) (text : List ℕ) (end other : SessionEnd) (r s : List Turn) (b c : List ℕ) → EndsAs a fsid tree end text r b → EndsAs a fsid tree' other text s c → (end ≡ WriteFault → ⊥) → (other ≡ WriteFault → ⊥) → contents r ≡ contents s
-  one_records tree tree' text end other r s b c first second not nor =
-      sym (answered-are end (course (no_reply fsid) text) (contents r) first.follows not) ∙ answered-are other (course (no_reply fsid) text) (contents s) second.follows nor
+  pub one_records : (tree other : T) (text : List ℕ) (r : Reading a tree text) (s : Reading a other text)
+      → (r.end ≡ WriteFault → ⊥) → (s.end ≡ WriteFault → ⊥) → contents r.turns ≡ contents s.turns
+  one_records tree other text r s not nor =
+      sym (answered-are r.end (course (no_reply a.fsid) text) (contents r.turns) r.ends.follows not) ∙ answered-are s.end
+      (course (no_reply a.fsid) text) (contents s.turns) s.ends.follows nor
 
-  pub one_end : (tree tree' : T) (text : List ℕ) (end other : SessionEnd) (r s : List Turn) (b c : List ℕ) → EndsAs a fsid tree end text r b → EndsAs a fsid tree' other text s c → IsByText end → IsByText other → end ≡ other
-  one_end tree tree' text end other r s b c first second by too =
-      sym (follows-by_text end (course (no_reply fsid) text) (contents r) first.follows by) ∙ follows-by_text other (course (no_reply fsid) text) (contents s) second.follows too
+  pub one_end : (tree other : T) (text : List ℕ) (r : Reading a tree text) (s : Reading a other text) → IsByText r.end
+      → IsByText s.end → r.end ≡ s.end
+  one_end tree other text r s by too =
+      sym (follows-by_text r.end (course (no_reply a.fsid) text) (contents r.turns) r.ends.follows by) ∙ follows-by_text s.end
+      (course (no_reply a.fsid) text) (contents s.turns) s.ends.follows too
 
-  pub one_bytes : (tree : T) (text : List ℕ) (end other : SessionEnd) (r s : List Turn) (b c : List ℕ) → EndsAs a fsid tree end text r b → EndsAs a fsid tree other text s c → (end ≡ WriteFault → ⊥) → (other ≡ WriteFault → ⊥) → moments_of fsid r ≡ moments_of fsid s → memories r ≡ memories s → b ≡ c
-  one_bytes tree text end other r s b c first second not nor ms ns =
-      let same = same-turns tree r s (one_records tree tree text end other r s b c first second not nor) ms ns in
-      wrote-is end b (transcript a fsid tree r) first.wrote not ∙ (same.bytes ∙ sym (wrote-is other c (transcript a fsid tree s) second.wrote nor))
+  pub one_reading : (tree : T) (text : List ℕ) (r s : Reading a tree text) → (r.end ≡ WriteFault → ⊥) → (s.end ≡ WriteFault → ⊥)
+      → moments_of r.turns ≡ moments_of s.turns → starved r.turns ≡ starved s.turns → IsSame r s
+  one_reading tree text r s not nor ms ns =
+      let same = same-turns tree r.behind s.behind r.turns s.turns r.tells s.tells (one_records tree tree text r s not nor) ms
+      ns in
+      record {
+        turns = same.turns;
+        bytes = wrote-is a.fsid r.end r.turns r.bytes r.ends.wrote not ∙
+            (ap (written a.fsid) same.turns ∙ sym (wrote-is a.fsid s.end s.turns s.bytes s.ends.wrote nor));
+        behind = same.behind;
+      }
 
-  pub one_tree : (tree : T) (text : List ℕ) (end other : SessionEnd) (r s : List Turn) (b c : List ℕ) → EndsAs a fsid tree end text r b → EndsAs a fsid tree other text s c → (end ≡ WriteFault → ⊥) → (other ≡ WriteFault → ⊥) → moments_of fsid r ≡ moments_of fsid s → memories r ≡ memories s → tree_behind a fsid tree r ≡ tree_behind a fsid tree s
-  one_tree tree text end other r s b c first second not nor ms ns =
-      (same-turns tree r s (one_records tree tree text end other r s b c first second not nor) ms ns).behind
+  -- what was written of broken turns, which others go on from
+  broken-front : (r s others : List Turn) (bytes : List ℕ) → BreaksIn a.fsid r bytes → s ≡ r ++ others
+      → IsFront bytes (written a.fsid s)
+  broken-front r s others bytes b is =
+      let fsid = a.fsid in
+      let last : written fsid (b.last ∷ []) ≡ b.front ++ b.rest = append-nil (reply_to fsid b.last) ∙ b.reply in
+      let whole : written fsid r ≡ (written fsid b.answered ++ b.front) ++ b.rest =
+      ap (written fsid) b.turns_are ∙ (written-append fsid b.answered (b.last ∷ [])
+      ∙ (ap (λ (xs : List ℕ). written fsid b.answered ++ xs) last ∙ sym
+      (append_assoc (written fsid b.answered) b.front b.rest))) in
+      record {
+        rest = b.rest ++ written fsid others;
+        whole = ap (written fsid) is ∙ (written-append fsid r others
+            ∙ (ap (λ (xs : List ℕ). xs ++ written fsid others) (whole ∙ ap (λ (xs : List ℕ). xs ++ b.rest) (sym b.bytes_are))
+            ∙ append_assoc bytes b.rest (written fsid others)));
+      }
 
-  front-front : (bytes middle rest all : List ℕ) → IsFront bytes middle → all ≡ middle ++ rest → IsFront bytes all
-  front-front bytes middle rest all first then = record { rest = first.rest ++ rest; whole = then ∙ (ap (λ (xs : List ℕ). xs ++ rest) first.whole ∙ append_assoc bytes first.rest rest) }
-
-  pub broken_front : (tree : T) (text : List ℕ) (other : SessionEnd) (r s : List Turn) (b c : List ℕ) → EndsAs a fsid tree WriteFault text r b → EndsAs a fsid tree other text s c → (other ≡ WriteFault → ⊥) → IsFront (moments_of fsid r) (moments_of fsid s) → IsFront (memories r) (memories s) → IsFront b c
-  broken_front tree text other r s b c first second nor ms ns =
-      let records = sym (answered-are other (course (no_reply fsid) text) (contents s) second.follows nor) ∙ first.follows.first in
-      let on = goes_on-from tree r s first.follows.others ms.rest ns.rest records ms.whole ns.whole in
-      front-front b (transcript a fsid tree r) (transcript a fsid (tree_behind a fsid tree r) on.others) c first.wrote
-      (wrote-is other c (transcript a fsid tree s) second.wrote nor ∙ on.bytes)
+  pub one_front : (tree : T) (text : List ℕ) (r s : Reading a tree text) → r.end ≡ WriteFault → (s.end ≡ WriteFault → ⊥)
+      → IsFront (moments_of r.turns) (moments_of s.turns) → IsFront (starved r.turns) (starved s.turns) → IsFront r.bytes s.bytes
+  one_front tree text r s broken nor ms ns =
+      let breaks = subst (λ (e : SessionEnd). Follows e (course (no_reply a.fsid) text) (contents r.turns)) broken
+      r.ends.follows in
+      let wrote = subst (λ (e : SessionEnd). Wrote a.fsid e r.turns r.bytes) broken r.ends.wrote in
+      let records = sym (answered-are s.end (course (no_reply a.fsid) text) (contents s.turns) s.ends.follows nor) ∙
+      breaks.first in
+      let on = goes_on-from tree r.behind s.behind r.turns s.turns breaks.others ms.rest ns.rest r.tells s.tells records
+      ms.whole ns.whole in
+      subst (IsFront r.bytes) (sym (wrote-is a.fsid s.end s.turns s.bytes s.ends.wrote nor))
+      (broken-front r.turns s.turns on.others r.bytes wrote on.turns)

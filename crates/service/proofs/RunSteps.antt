@@ -1,49 +1,132 @@
 -- A run ends by the bytes that it read, but for what is apart from them.
-use Rattle.std.proofs.Common.{◌≡◌, ℕ, List, Option, String, refl, sym, ◌∙◌, ap, ◌⊎◌, inl, inr}
+use Rattle.std.proofs.Common.{◌≡◌, ◌^◌, ℕ, List, String, refl, sym, ◌∙◌, ap, subst, ◌↔◌, ◌⊎◌, inl, inr, arith}
 use Rattle.std.specs.declared.alloc.Global.{Global}
-use Rattle.nfs3_types.specs.declared.moment.Moment.{Moment}
-use Rattle.outside.specs.Count.{Rose}
+use Rattle.nfs3_types.specs.Count.{Rose, RoseBy}
+use Rattle.outside.specs.Seen.{StreamsTold, Streams}
 use Rattle.service.specs.declared.session.SessionEnd.{SessionEnd}
-use Rattle.service.specs.declared.session.SessionEnd.TheVariants.{Done, ReadFault, WriteFault, CutRecord, TooLong, BadRecord, ManyReads}
+use Rattle.service.specs.declared.session.SessionEnd.TheVariants.{Done, ReadFault, WriteFault, CutRecord, TooLong, BadRecord}
+use Rattle.service.specs.declared.session.SessionEnd.TheVariants.{ManyReads}
 use Rattle.service.specs.declared.command.RunEnd.{RunEnd}
 use Rattle.service.specs.declared.command.RunEnd.TheVariants.{Usage, NoMemory, Session}
 use Rattle.service.specs.Turns.{contents, no_reply}
 use Rattle.service.specs.Course.{course}
 use Rattle.service.specs.Session.{IsByText}
 use Rattle.service.specs.Served.{fsid}
-use Rattle.service.specs.Run.{IsFeed, IsFed, Outcome, IsApart, EndsByText, status_of}
+use Rattle.service.specs.Run.{IsFeed, Feeds, Outcome, IsApart, EndsByText, status_of}
 use Rattle.service.proofs.Readings.{follows-by_text}
 
--- the text alone ended the session
-ends-by_text : {S C K : Type 0} (taken left : S → Option (List ℕ)) (read_faults : S → ℕ) (given : C → Option (List Moment)) (to_come : C → Option (ℕ → Moment)) (written : K → Option (List ℕ)) (write_faults : K → ℕ) (words : List (String Global)) (source source' : S) (clock clock' : C) (sink sink' : K) (end : SessionEnd) (status : ℕ) → IsByText end → status ≡ status_of (Session end) → IsFed taken left read_faults given to_come written write_faults words source source' clock clock' sink sink' end → EndsByText taken left source source' status
-ends-by_text taken left read_faults given to_come written write_faults words source source' clock clock' sink sink' end status by is fed =
-    let s = fed.feeds.session in
-    record {
-      text = s.text;
-      gave = s.gave;
-      status_is = is ∙ ap (λ (e : SessionEnd). status_of (Session e)) (sym (follows-by_text end (course (no_reply fsid) s.text) (contents s.turns) s.ends.follows by));
-    }
+-- an end that is not for the words
+no_usage : (end : RunEnd) (status : ℕ) → end ≡ Usage → (end ≡ Usage → ⊥) → status ≡ 1
+no_usage end status e not = absurd (not e)
 
-pub apart-or_by_text : {S C K : Type 0} (taken left : S → Option (List ℕ)) (read_faults : S → ℕ) (given : C → Option (List Moment)) (to_come : C → Option (ℕ → Moment)) (written : K → Option (List ℕ)) (write_faults : K → ℕ) (words : List (String Global)) (source source' : S) (clock clock' : C) (sink sink' : K) (end : RunEnd) (status : ℕ) → status ≡ status_of end → Outcome taken left read_faults given to_come written write_faults words source source' clock clock' sink sink' end → IsApart status ⊎ EndsByText taken left source source' status
-apart-or_by_text taken left read_faults given to_come written write_faults words source source' clock clock' sink sink' Usage status is outcome = inl (inl is)
-apart-or_by_text taken left read_faults given to_come written write_faults words source source' clock clock' sink sink' (Session ReadFault) status is outcome = inl (inr (inl is))
-apart-or_by_text taken left read_faults given to_come written write_faults words source source' clock clock' sink sink' (Session WriteFault) status is outcome = inl (inr (inr (inl is)))
-apart-or_by_text taken left read_faults given to_come written write_faults words source source' clock clock' sink sink' NoMemory status is outcome = inl (inr (inr (inr (inl is))))
-apart-or_by_text taken left read_faults given to_come written write_faults words source source' clock clock' sink sink' (Session ManyReads) status is outcome = inl (inr (inr (inr (inr is))))
-apart-or_by_text taken left read_faults given to_come written write_faults words source source' clock clock' sink sink' (Session Done) status is outcome = inr (ends-by_text taken left read_faults given to_come written write_faults words source source' clock clock' sink sink' Done status tt is outcome)
-apart-or_by_text taken left read_faults given to_come written write_faults words source source' clock clock' sink sink' (Session CutRecord) status is outcome = inr (ends-by_text taken left read_faults given to_come written write_faults words source source' clock clock' sink sink' CutRecord status tt is outcome)
-apart-or_by_text taken left read_faults given to_come written write_faults words source source' clock clock' sink sink' (Session TooLong) status is outcome = inr (ends-by_text taken left read_faults given to_come written write_faults words source source' clock clock' sink sink' TooLong status tt is outcome)
-apart-or_by_text taken left read_faults given to_come written write_faults words source source' clock clock' sink sink' (Session BadRecord) status is outcome = inr (ends-by_text taken left read_faults given to_come written write_faults words source source' clock clock' sink sink' BadRecord status tt is outcome)
+module _ {S C K : Type 0} (told : StreamsTold S C K) (words : List (String Global)) (before now : Streams S C K) where
+  -- the text alone ended the session
+  ends-by_text : (end : SessionEnd) (status : ℕ) → IsByText end → status ≡ status_of (Session end) → Feeds told before now end
+      → EndsByText told.source before.source now.source status
+  ends-by_text end status by is feeds =
+      let s = feeds.session in
+      record {
+        text = s.text;
+        takes = s.takes;
+        gave = s.gave;
+        status_is = is ∙ ap (λ (e : SessionEnd). status_of (Session e))
+            (sym (follows-by_text end (course (no_reply fsid) s.text) (contents s.turns) s.ends.follows by));
+      }
 
--- the same, where the words are the command and no count rose
-pub complete : {S C K : Type 0} (taken left : S → Option (List ℕ)) (read_faults : S → ℕ) (given : C → Option (List Moment)) (to_come : C → Option (ℕ → Moment)) (written : K → Option (List ℕ)) (write_faults : K → ℕ) (words : List (String Global)) (source source' : S) (clock clock' : C) (sink sink' : K) (end : RunEnd) (status : ℕ) → status ≡ status_of end → Outcome taken left read_faults given to_come written write_faults words source source' clock clock' sink sink' end
-    → IsFeed words → (Rose (read_faults source) (read_faults source') → ⊥) → (Rose (write_faults sink) (write_faults sink') → ⊥) → (status ≡ 7) ⊎ (status ≡ 8) ⊎ EndsByText taken left source source' status
-complete taken left read_faults given to_come written write_faults words source source' clock clock' sink sink' Usage status is outcome feed read write = absurd (outcome.no_command feed)
-complete taken left read_faults given to_come written write_faults words source source' clock clock' sink sink' (Session ReadFault) status is outcome feed read write = absurd (read (outcome.feeds.session.ended.read_fault refl))
-complete taken left read_faults given to_come written write_faults words source source' clock clock' sink sink' (Session WriteFault) status is outcome feed read write = absurd (write (outcome.feeds.session.ended.write_fault refl))
-complete taken left read_faults given to_come written write_faults words source source' clock clock' sink sink' NoMemory status is outcome feed read write = inl is
-complete taken left read_faults given to_come written write_faults words source source' clock clock' sink sink' (Session ManyReads) status is outcome feed read write = inr (inl is)
-complete taken left read_faults given to_come written write_faults words source source' clock clock' sink sink' (Session Done) status is outcome feed read write = inr (inr (ends-by_text taken left read_faults given to_come written write_faults words source source' clock clock' sink sink' Done status tt is outcome))
-complete taken left read_faults given to_come written write_faults words source source' clock clock' sink sink' (Session CutRecord) status is outcome feed read write = inr (inr (ends-by_text taken left read_faults given to_come written write_faults words source source' clock clock' sink sink' CutRecord status tt is outcome))
-complete taken left read_faults given to_come written write_faults words source source' clock clock' sink sink' (Session TooLong) status is outcome feed read write = inr (inr (ends-by_text taken left read_faults given to_come written write_faults words source source' clock clock' sink sink' TooLong status tt is outcome))
-complete taken left read_faults given to_come written write_faults words source source' clock clock' sink sink' (Session BadRecord) status is outcome feed read write = inr (inr (ends-by_text taken left read_faults given to_come written write_faults words source source' clock clock' sink sink' BadRecord status tt is outcome))
+  pub apart-or_by_text : (end : RunEnd) (status : ℕ) → status ≡ status_of end → Outcome told words before now end
+      → IsApart status ⊎ EndsByText told.source before.source now.source status
+  apart-or_by_text Usage status is o = inl (inl is)
+  apart-or_by_text (Session ReadFault) status is o = inl (inr (inl is))
+  apart-or_by_text (Session WriteFault) status is o = inl (inr (inr (inl is)))
+  apart-or_by_text NoMemory status is o = inl (inr (inr (inr (inl is))))
+  apart-or_by_text (Session ManyReads) status is o = inl (inr (inr (inr (inr is))))
+  apart-or_by_text (Session Done) status is o = inr (ends-by_text Done status tt is o.did)
+  apart-or_by_text (Session CutRecord) status is o = inr (ends-by_text CutRecord status tt is o.did)
+  apart-or_by_text (Session TooLong) status is o = inr (ends-by_text TooLong status tt is o.did)
+  apart-or_by_text (Session BadRecord) status is o = inr (ends-by_text BadRecord status tt is o.did)
+
+  -- the same, where the words are the command and no count rose
+  pub complete : (end : RunEnd) (status : ℕ) → status ≡ status_of end → Outcome told words before now end → IsFeed words
+      → (Rose (told.source.faults before.source) (told.source.faults now.source) → ⊥)
+      → (Rose (told.sink.faults before.sink) (told.sink.faults now.sink) → ⊥)
+      → (status ≡ 7) ⊎ (status ≡ 8) ⊎ EndsByText told.source before.source now.source status
+  complete Usage status is o feed read write = absurd (o.usage.0 refl feed)
+  complete (Session ReadFault) status is o feed read write = absurd (read (o.did.session.ended.read_fault refl))
+  complete (Session WriteFault) status is o feed read write = absurd (write (o.did.session.ended.write_fault refl))
+  complete NoMemory status is o feed read write = inl is
+  complete (Session ManyReads) status is o feed read write = inr (inl is)
+  complete (Session Done) status is o feed read write = inr (inr (ends-by_text Done status tt is o.did))
+  complete (Session CutRecord) status is o feed read write = inr (inr (ends-by_text CutRecord status tt is o.did))
+  complete (Session TooLong) status is o feed read write = inr (inr (ends-by_text TooLong status tt is o.did))
+  complete (Session BadRecord) status is o feed read write = inr (inr (ends-by_text BadRecord status tt is o.did))
+
+  -- ---- the causes of the statuses
+
+  pub read_fault-rose : (end : RunEnd) (status : ℕ) → status ≡ status_of end → Outcome told words before now end → status ≡ 2
+      → Rose (told.source.faults before.source) (told.source.faults now.source)
+  read_fault-rose Usage status is o e = absurd (omega (arith, is, e))
+  read_fault-rose NoMemory status is o e = absurd (omega (arith, is, e))
+  read_fault-rose (Session Done) status is o e = absurd (omega (arith, is, e))
+  read_fault-rose (Session ReadFault) status is o e = o.did.session.ended.read_fault refl
+  read_fault-rose (Session WriteFault) status is o e = absurd (omega (arith, is, e))
+  read_fault-rose (Session CutRecord) status is o e = absurd (omega (arith, is, e))
+  read_fault-rose (Session TooLong) status is o e = absurd (omega (arith, is, e))
+  read_fault-rose (Session BadRecord) status is o e = absurd (omega (arith, is, e))
+  read_fault-rose (Session ManyReads) status is o e = absurd (omega (arith, is, e))
+
+  pub write_fault-rose : (end : RunEnd) (status : ℕ) → status ≡ status_of end → Outcome told words before now end → status ≡ 3
+      → Rose (told.sink.faults before.sink) (told.sink.faults now.sink)
+  write_fault-rose Usage status is o e = absurd (omega (arith, is, e))
+  write_fault-rose NoMemory status is o e = absurd (omega (arith, is, e))
+  write_fault-rose (Session Done) status is o e = absurd (omega (arith, is, e))
+  write_fault-rose (Session ReadFault) status is o e = absurd (omega (arith, is, e))
+  write_fault-rose (Session WriteFault) status is o e = o.did.session.ended.write_fault refl
+  write_fault-rose (Session CutRecord) status is o e = absurd (omega (arith, is, e))
+  write_fault-rose (Session TooLong) status is o e = absurd (omega (arith, is, e))
+  write_fault-rose (Session BadRecord) status is o e = absurd (omega (arith, is, e))
+  write_fault-rose (Session ManyReads) status is o e = absurd (omega (arith, is, e))
+
+  pub no_memory-same : (end : RunEnd) (status : ℕ) → status ≡ status_of end → Outcome told words before now end → status ≡ 7
+      → now ≡ before
+  no_memory-same Usage status is o e = absurd (omega (arith, is, e))
+  no_memory-same NoMemory status is o e = o.did
+  no_memory-same (Session Done) status is o e = absurd (omega (arith, is, e))
+  no_memory-same (Session ReadFault) status is o e = absurd (omega (arith, is, e))
+  no_memory-same (Session WriteFault) status is o e = absurd (omega (arith, is, e))
+  no_memory-same (Session CutRecord) status is o e = absurd (omega (arith, is, e))
+  no_memory-same (Session TooLong) status is o e = absurd (omega (arith, is, e))
+  no_memory-same (Session BadRecord) status is o e = absurd (omega (arith, is, e))
+  no_memory-same (Session ManyReads) status is o e = absurd (omega (arith, is, e))
+
+  pub many-took : (end : RunEnd) (status : ℕ) → status ≡ status_of end → Outcome told words before now end → status ≡ 8
+      → RoseBy (2 ^ 48) (told.source.takes before.source) (told.source.takes now.source)
+  many-took Usage status is o e = absurd (omega (arith, is, e))
+  many-took NoMemory status is o e = absurd (omega (arith, is, e))
+  many-took (Session Done) status is o e = absurd (omega (arith, is, e))
+  many-took (Session ReadFault) status is o e = absurd (omega (arith, is, e))
+  many-took (Session WriteFault) status is o e = absurd (omega (arith, is, e))
+  many-took (Session CutRecord) status is o e = absurd (omega (arith, is, e))
+  many-took (Session TooLong) status is o e = absurd (omega (arith, is, e))
+  many-took (Session BadRecord) status is o e = absurd (omega (arith, is, e))
+  many-took (Session ManyReads) status is o e = let s =
+      o.did.session in subst (λ (k : ℕ). RoseBy k (told.source.takes before.source) (told.source.takes now.source))
+      (s.ended.many refl) s.gave.counted.rose
+
+  pub usage-is : (end : RunEnd) (status : ℕ) → status ≡ status_of end → Outcome told words before now end
+      → (status ≡ 1) ↔ (IsFeed words → ⊥)
+  usage-is Usage status is o = (λ e. o.usage.0 refl, λ h. is)
+  usage-is NoMemory status is o = (λ e. absurd (omega (arith, is, e)), λ h. no_usage NoMemory status (o.usage.1 h) (λ e. cc))
+  usage-is (Session Done) status is o =
+      (λ e. absurd (omega (arith, is, e)), λ h. no_usage (Session Done) status (o.usage.1 h) (λ e. cc))
+  usage-is (Session ReadFault) status is o =
+      (λ e. absurd (omega (arith, is, e)), λ h. no_usage (Session ReadFault) status (o.usage.1 h) (λ e. cc))
+  usage-is (Session WriteFault) status is o =
+      (λ e. absurd (omega (arith, is, e)), λ h. no_usage (Session WriteFault) status (o.usage.1 h) (λ e. cc))
+  usage-is (Session CutRecord) status is o =
+      (λ e. absurd (omega (arith, is, e)), λ h. no_usage (Session CutRecord) status (o.usage.1 h) (λ e. cc))
+  usage-is (Session TooLong) status is o =
+      (λ e. absurd (omega (arith, is, e)), λ h. no_usage (Session TooLong) status (o.usage.1 h) (λ e. cc))
+  usage-is (Session BadRecord) status is o =
+      (λ e. absurd (omega (arith, is, e)), λ h. no_usage (Session BadRecord) status (o.usage.1 h) (λ e. cc))
+  usage-is (Session ManyReads) status is o =
+      (λ e. absurd (omega (arith, is, e)), λ h. no_usage (Session ManyReads) status (o.usage.1 h) (λ e. cc))

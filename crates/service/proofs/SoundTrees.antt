@@ -1,33 +1,36 @@
 -- The trees of a session are sound.
-use Rattle.std.proofs.Common.{◌<◌, List, [], ◌∷◌, arith}
+use Rattle.std.proofs.Common.{◌<◌, List, [], ◌∷◌, sym, subst, arith}
+use Rattle.nfs3_types.specs.declared.cred.Cred.{Cred}
+use Rattle.nfs3_types.specs.Calls.{Call}
 use Rattle.fs_rules.specs.Answers.{Asked, after}
 use Rattle.fs_rules.specs.Tree.{Tree}
-use Rattle.fs_sound.specs.Links.{IsSound}
+use Rattle.fs_rules.specs.Sound.{IsSound}
 use Rattle.rpc_route.specs.Immediate.{Immediate, Bad, Replied, Needs, immediate_reply}
-use Rattle.service.specs.Served.{answering, fsid}
-use Rattle.service.specs.Turns.{Memory, Enough, LacksBefore, LacksAfter, Turn, cred_of, moved, tree_after, tree_behind, tree_by}
+use Rattle.service.specs.Served.{answering, after_in_lane, fsid}
+use Rattle.service.specs.Turns.{Outcome, Ready, Told, Starved, Turn, Tells, TellsBy, TellsCall, TellsTurn, cred_of}
 
 -- every call keeps trees sound
 abbrev KeepSound : Type 0
 KeepSound = (t : Tree) (a : Asked) → a.lane < 16 → IsSound t → IsSound (after t a)
 
-moved_sound : (m : Memory) (tree next : Tree) → IsSound tree → IsSound next → IsSound (moved m tree next)
-moved_sound Enough tree next now then_is = then_is
-moved_sound LacksBefore tree next now then_is = now
-moved_sound LacksAfter tree next now then_is = then_is
+call_sound : KeepSound → (old new : Tree) (cred : Cred) (lent : Call) (o : Outcome) → TellsCall answering old new cred lent o
+    → IsSound old → IsSound new
+unfolding after_in_lane
+call_sound keep old new cred lent Ready tells sound = absurd tells
+call_sound keep old new cred lent (Told moment reply) tells sound =
+    subst IsSound (sym tells.1) (keep old (record { cred = cred; call = lent; now = moment; lane = 0 }) (omega arith) sound)
+call_sound keep old new cred lent (Starved moment) tells sound = subst IsSound (sym tells) sound
 
-by_sound : KeepSound → (tree : Tree) (t : Turn) → IsSound tree → (i : Immediate) → IsSound (tree_by answering tree t i)
-unfolding answering
-by_sound keep tree t sound (Bad fault) = sound
-by_sound keep tree t sound (Replied reply) = sound
-by_sound keep tree t sound (Needs xid caller lent) =
-    moved_sound t.memory tree (after tree (record { cred = cred_of caller; call = lent; now = t.moment; lane = 0 })) sound
-    (keep tree (record { cred = cred_of caller; call = lent; now = t.moment; lane = 0 }) (omega arith) sound)
+by_sound : KeepSound → (old new : Tree) (i : Immediate) (o : Outcome) → TellsBy answering old new i o → IsSound old → IsSound new
+by_sound keep old new (Bad fault) o tells sound = absurd tells
+by_sound keep old new (Replied reply) o tells sound = subst IsSound (sym tells.1) sound
+by_sound keep old new (Needs xid caller lent) o tells sound = call_sound keep old new (cred_of caller) lent o tells sound
 
-after_sound : KeepSound → (tree : Tree) (t : Turn) → IsSound tree → IsSound (tree_after answering fsid tree t)
-unfolding tree_after
-after_sound keep tree t sound = by_sound keep tree t sound (immediate_reply fsid t.content)
+turn_sound : KeepSound → (old new : Tree) (t : Turn) → TellsTurn answering old new t → IsSound old → IsSound new
+unfolding TellsTurn
+turn_sound keep old new t tells sound = by_sound keep old new (immediate_reply fsid t.content) t.outcome tells sound
 
-pub behind_sound : KeepSound → (tree : Tree) → IsSound tree → (turns : List Turn) → IsSound (tree_behind answering fsid tree turns)
-behind_sound keep tree sound [] = sound
-behind_sound keep tree sound (t ∷ turns) = behind_sound keep (tree_after answering fsid tree t) (after_sound keep tree t sound) turns
+pub tells_sound : KeepSound → (old new : Tree) (turns : List Turn) → Tells answering old new turns → IsSound old → IsSound new
+tells_sound keep old new [] tells sound = subst IsSound (sym tells) sound
+tells_sound keep old new (t ∷ turns) tells sound =
+    tells_sound keep tells.0 new turns tells.2 (turn_sound keep old tells.0 t tells.1 sound)

@@ -1,89 +1,82 @@
 -- What was done with one record is a turn.
-use Rattle.std.proofs.Common.{◌≡◌, ℕ, List, [], ◌∷◌, ◌++◌, Option, Ok, Err, refl, sym, ◌∙◌, ap, subst, ⊎_elim}
+use Rattle.std.proofs.Common.{◌≡◌, ℕ, List, [], ◌∷◌, ◌++◌, Ok, Err, refl, sym, subst}
 use Rattle.nfs3_types.specs.declared.moment.Moment.{Moment}
+use Rattle.nfs3_types.specs.declared.reply.Reply.{Reply}
 use Rattle.nfs3_types.specs.Calls.{Call}
-use Rattle.outside.specs.Clock.{GaveMoments}
+use Rattle.outside.specs.Clock.{ClockTold, GaveMoments}
 use Rattle.outside.proofs.MomentLaws.{gave_moments-nil}
 use Rattle.rpc_msg.specs.declared.call.HeadFault.{HeadFault}
 use Rattle.rpc_msg.specs.declared.credential.Who.{Who}
 use Rattle.rpc_msg.specs.Auth.{Caller}
-use Rattle.rpc_msg.specs.Message.{message_head}
 use Rattle.rpc_route.specs.Immediate.{Immediate, Bad, Replied, Needs, immediate_reply}
 use Rattle.rpc_route.specs.declared.routed.Routed.{Routed}
-use Rattle.rpc_route.specs.declared.routed.Routed.TheVariants.{Nfs, Ready}
+use Rattle.rpc_route.specs.declared.routed.Routed.TheVariants.{Nfs, Ready as RepliedAtOnce}
 use Rattle.rpc_route.specs.declared.routed.RouteFault.{RouteFault}
-use Rattle.rpc_route.specs.declared.routed.RouteFault.TheVariants.{BadRecord as BadHead, NoMemory}
-use Rattle.rpc_route.specs.Routing.{caller_of, HasReply, NeedsTree, LacksMemory, HasXid, RoutesRecord}
+use Rattle.rpc_route.specs.declared.routed.RouteFault.TheVariants.{BadRecord as BadHead}
+use Rattle.rpc_route.specs.Routing.{caller_of, HasReply, NeedsTree, RoutesRecord}
 use Rattle.rpc_route.specs.Sealing.{sealed}
-use Rattle.service.specs.Turns.{Answering, Memory, Enough, LacksBefore, LacksAfter, cred_of, no_memory, xid_in, reply_by, reply_to, tree_after, no_reply}
-use Rattle.service.specs.Steps.{MovesOrStays, TakesCall, TakesTurn}
+use Rattle.service.specs.Turns.{Answering, Ready, Told, Starved, TellsTurn, cred_of, no_memory, no_reply, reply_to}
+use Rattle.service.specs.Steps.{TakesCall, TakesTurn}
 
 -- ---- how it was routed
 
-needs_of : (i : Immediate) (text old new : List ℕ) (routed : Routed) (xid : ℕ) (who : Who) (lent : Call) → RoutesRecord i text old new (Ok routed) → routed ≡ Nfs xid who lent → NeedsTree i xid who lent old new
+needs_of : (i : Immediate) (text old new : List ℕ) (routed : Routed) (xid : ℕ) (who : Who) (lent : Call)
+    → RoutesRecord i text old new (Ok routed) → routed ≡ Nfs xid who lent → NeedsTree i xid who lent old new
 needs_of i text old new routed xid who lent h is = subst (λ (r : Routed). RoutesRecord i text old new (Ok r)) is h
 
-pub needs_is : (i : Immediate) (text old new : List ℕ) (routed : Routed) (xid : ℕ) (who : Who) (lent : Call) → RoutesRecord i text old new (Ok routed) → routed ≡ Nfs xid who lent → i ≡ Needs xid (caller_of who) lent
+pub needs_is : (i : Immediate) (text old new : List ℕ) (routed : Routed) (xid : ℕ) (who : Who) (lent : Call)
+    → RoutesRecord i text old new (Ok routed) → routed ≡ Nfs xid who lent → i ≡ Needs xid (caller_of who) lent
 needs_is i text old new routed xid who lent h is = (needs_of i text old new routed xid who lent h is).is
 
-pub has_reply : (i : Immediate) (text old new : List ℕ) (routed : Routed) → RoutesRecord i text old new (Ok routed) → routed ≡ Ready → HasReply i old new
+pub has_reply : (i : Immediate) (text old new : List ℕ) (routed : Routed) → RoutesRecord i text old new (Ok routed)
+    → routed ≡ RepliedAtOnce → HasReply i old new
 has_reply i text old new routed h is = subst (λ (r : Routed). RoutesRecord i text old new (Ok r)) is h
 
-pub is_bad : (i : Immediate) (text old new : List ℕ) (fault : RouteFault) (head : HeadFault) → RoutesRecord i text old new (Err fault) → fault ≡ BadHead head → i ≡ Bad head
+pub is_bad : (i : Immediate) (text old new : List ℕ) (fault : RouteFault) (head : HeadFault)
+    → RoutesRecord i text old new (Err fault) → fault ≡ BadHead head → i ≡ Bad head
 is_bad i text old new fault head h is = (subst (λ (f : RouteFault). RoutesRecord i text old new (Err f)) is h).is
-
-pub lacks_memory : (i : Immediate) (text old new : List ℕ) (fault : RouteFault) (xid : ℕ) → RoutesRecord i text old new (Err fault) → fault ≡ NoMemory xid → LacksMemory i old new × HasXid text xid
-lacks_memory i text old new fault xid h is = subst (λ (f : RouteFault). RoutesRecord i text old new (Err f)) is h
 
 -- ---- which turn it is
 
--- a moment that is not taken
-no_moment : Moment
-no_moment = record { seconds = 0; nanos = 0 }
-
 module _ {T : Type 0} (a : Answering T) where
-  -- memory sufficed
-  pub call-enough : (tree tree' : T) (xid : ℕ) (caller : Caller) (lent : Call) (moment : Moment) (out : List ℕ) → tree' ≡ a.after tree (cred_of caller) lent moment → out ≡ sealed xid (a.answer tree (cred_of caller) lent moment) → TakesCall a tree tree' xid caller lent moment out
-  call-enough tree tree' xid caller lent moment out next reply = record { memory = Enough; tree = next; reply_is = reply }
+  -- the tree told a reply
+  pub call-told : (tree tree' : T) (caller : Caller) (lent : Call) (moment : Moment) (xid : ℕ) (reply : Reply) (out : List ℕ)
+      → reply ≡ a.answer tree (cred_of caller) lent moment → tree' ≡ a.after tree (cred_of caller) lent moment
+      → out ≡ sealed xid reply
+      → TakesCall a (tree, tree') caller lent moment xid out
+  call-told tree tree' caller lent moment xid reply out answer next is =
+      record { outcome = Told moment reply; tells = (answer, next); moment_is = refl; reply_is = is }
 
-  -- it lacked
-  pub call-lacks : (tree tree' : T) (xid : ℕ) (caller : Caller) (lent : Call) (moment : Moment) (out : List ℕ) → MovesOrStays tree tree' (a.after tree (cred_of caller) lent moment) → out ≡ no_memory xid → TakesCall a tree tree' xid caller lent moment out
-  call-lacks tree tree' xid caller lent moment out moves reply = ⊎_elim
-      (λ (stays : tree' ≡ tree). record { memory = LacksBefore; tree = stays; reply_is = reply })
-      (λ (moved : tree' ≡ a.after tree (cred_of caller) lent moment). record { memory = LacksAfter; tree = moved; reply_is = reply })
-      moves
+  -- memory ran out before
+  pub call-starved : (tree tree' : T) (caller : Caller) (lent : Call) (moment : Moment) (xid : ℕ) (out : List ℕ)
+      → tree' ≡ tree → out ≡ no_memory xid → TakesCall a (tree, tree') caller lent moment xid out
+  call-starved tree tree' caller lent moment xid out stays is =
+      record { outcome = Starved moment; tells = stays; moment_is = refl; reply_is = is }
 
-module _ {T C : Type 0} (a : Answering T) (fsid : ℕ) (given : C → Option (List Moment)) (to_come : C → Option (ℕ → Moment)) where
+module _ {T C : Type 0} (a : Answering T) (told : ClockTold C) where
   -- a record that needs no tree
-  replied-turn : (tree : T) (clock : C) (content reply out : List ℕ) (memory : Memory) → immediate_reply fsid content ≡ Replied reply → out ≡ reply_by a tree (record { content = content; moment = no_moment; memory = memory }) (Replied reply) → TakesTurn a fsid given to_come tree tree clock clock content out
-  unfolding reply_to tree_after no_reply
-  replied-turn tree clock content reply out memory is e = record {
-    turn = record { content = content; moment = no_moment; memory = memory };
-    content_is = refl;
+  pub turn-replied : (tree : T) (clock : C) (content reply out : List ℕ) → immediate_reply a.fsid content ≡ Replied reply
+      → out ≡ [] ++ reply → TakesTurn a told (tree, clock) (tree, clock) content out
+  unfolding reply_to TellsTurn no_reply
+  turn-replied tree clock content reply out is e = record {
+    outcome = Ready;
     answered = rw is refl;
-    tree = rw is refl;
-    gave = rw is (gave_moments-nil given to_come clock);
+    tells = rw is (refl, refl);
+    gave = gave_moments-nil told clock;
     reply_is = rw is e;
   }
 
-  -- it was answered
-  pub turn-replied : (tree : T) (clock : C) (content reply out : List ℕ) → immediate_reply fsid content ≡ Replied reply → out ≡ [] ++ reply → TakesTurn a fsid given to_come tree tree clock clock content out
-  turn-replied tree clock content reply out is e = replied-turn tree clock content reply out Enough is e
-
-  -- or memory lacked for the reply
-  pub turn-starved : (tree : T) (clock : C) (content reply out : List ℕ) (xid : ℕ) → immediate_reply fsid content ≡ Replied reply → HasXid content xid → out ≡ no_memory xid → TakesTurn a fsid given to_come tree tree clock clock content out
-  turn-starved tree clock content reply out xid is head e =
-      let same : xid_in (message_head.read content) ≡ xid = ap xid_in head.read ∙ head.is in
-      replied-turn tree clock content reply out LacksBefore is (e ∙ sym (ap no_memory same))
-
   -- a call that needs the tree
-  pub turn-taken : (tree tree' : T) (clock clock' : C) (content out : List ℕ) (xid : ℕ) (caller : Caller) (lent : Call) (moment : Moment) → immediate_reply fsid content ≡ Needs xid caller lent → GaveMoments given to_come clock clock' (moment ∷ []) → TakesCall a tree tree' xid caller lent moment out → TakesTurn a fsid given to_come tree tree' clock clock' content out
-  unfolding reply_to tree_after no_reply
+  pub turn-taken : (tree tree' : T) (clock clock' : C) (content out : List ℕ) (xid : ℕ) (caller : Caller) (lent : Call)
+      (moment : Moment)
+      → immediate_reply a.fsid content ≡ Needs xid caller lent → GaveMoments told clock clock' (moment ∷ [])
+      → TakesCall a (tree, tree') caller lent moment xid out
+      → TakesTurn a told (tree, clock) (tree', clock') content out
+  unfolding reply_to TellsTurn no_reply
   turn-taken tree tree' clock clock' content out xid caller lent moment is gave taken = record {
-    turn = record { content = content; moment = moment; memory = taken.memory };
-    content_is = refl;
+    outcome = taken.outcome;
     answered = rw is refl;
-    tree = rw is taken.tree;
-    gave = rw is gave;
+    tells = rw is taken.tells;
+    gave = subst (GaveMoments told clock clock') (sym taken.moment_is) gave;
     reply_is = rw is taken.reply_is;
   }

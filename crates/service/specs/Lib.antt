@@ -1,7 +1,9 @@
 pub mod Turns
+pub mod Transcript
 pub mod Course
 pub mod Session
-pub mod SessionRuns
+pub mod Readings
+pub mod Room
 pub mod Steps
 pub mod Served
 pub mod Run

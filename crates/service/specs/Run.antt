@@ -1,20 +1,21 @@
 -- What a run does, by its words, its exit status and the line that it tells.
-use Rattle.std.specs.Prelude.{◌≡◌, ℕ, ◌≤◌, List, [], ◌∷◌, ◌++◌, map, Option, codes, String, ◌⊎◌}
+use Rattle.std.specs.Prelude.{◌≡◌, ◌↔◌, ℕ, ◌≤◌, List, [], ◌∷◌, ◌++◌, map, codes, String, ◌⊎◌}
 use Rattle.std.specs.String.{string_bytes}
 use Rattle.std.specs.declared.alloc.Global.{Global}
 use Rattle.nfs3_types.specs.declared.moment.Moment.{Moment}
-use Rattle.outside.specs.Count.{Rose}
-use Rattle.outside.specs.Told.{Gains, GaveBytes}
+use Rattle.nfs3_types.specs.Count.{Rose}
+use Rattle.outside.specs.Told.{SinkTold, SourceTold, GaveBytes, GotBytes}
 use Rattle.outside.specs.Clock.{GaveMoments}
+use Rattle.outside.specs.Seen.{StreamsTold, Streams, Seen, Outside}
 use Rattle.service.specs.declared.session.SessionEnd.{SessionEnd}
-use Rattle.service.specs.declared.session.SessionEnd.TheVariants.{Done, ReadFault, WriteFault, CutRecord, TooLong, BadRecord, ManyReads}
+use Rattle.service.specs.declared.session.SessionEnd.TheVariants.{Done, ReadFault, WriteFault, CutRecord, TooLong, BadRecord}
+use Rattle.service.specs.declared.session.SessionEnd.TheVariants.{ManyReads}
 use Rattle.service.specs.declared.command.RunEnd.{RunEnd}
 use Rattle.service.specs.declared.command.RunEnd.TheVariants.{Usage, NoMemory, Session}
 use Rattle.fs_rules.specs.Tree.{Tree}
 use Rattle.service.specs.Turns.{no_reply}
 use Rattle.service.specs.Course.{course}
-use Rattle.service.specs.Session.{IsFront}
-use Rattle.service.specs.SessionRuns.{SessionRuns}
+use Rattle.service.specs.Session.{IsFront, SessionTold, SessionAt, SessionRuns, desk, desk_told, session_at, session_told}
 use Rattle.service.specs.Served.{fsid, answering, made_at}
 
 -- the words are the one word `feed`
@@ -36,9 +37,12 @@ status_of (Session ManyReads) = 8
 abbrev pub line : List ℕ → List ℕ
 line text = text ++ 10 ∷ []
 
+abbrev pub usage : List ℕ
+usage = codes "fss: usage: fss feed [STORES REPLICAS] | fss work NUMBER CALLS [STORES REPLICAS LOST ROUGH] | fss serve ADDRESS WORKERS CONNECTIONS STORES REPLICAS"
+
 unfoldable pub line_of : RunEnd → List ℕ
 line_of (Session Done) = []
-line_of Usage = line (codes "fss: usage: fss feed [STORES REPLICAS] | fss work NUMBER CALLS [STORES REPLICAS LOST ROUGH] | fss serve ADDRESS WORKERS CONNECTIONS STORES REPLICAS")
+line_of Usage = line usage
 line_of (Session ReadFault) = line (codes "fss: input failed")
 line_of (Session WriteFault) = line (codes "fss: output failed")
 line_of (Session CutRecord) = line (codes "fss: input ended inside a record")
@@ -47,61 +51,57 @@ line_of (Session BadRecord) = line (codes "fss: bad record")
 line_of NoMemory = line (codes "fss: no memory")
 line_of (Session ManyReads) = line (codes "fss: too many reads")
 
--- the sink gained the line, or a front of it where it failed
-pub record Tells {E : Type 0} (written : E → Option (List ℕ)) (faults : E → ℕ) (old new : E) (text : List ℕ) : Type 0 where
+-- the sink got the line, or a front of it where it failed
+pub record GotLine {E : Type 0} (told : SinkTold E) (before now : E) (text : List ℕ) : Type 0 where
   pub bytes : List ℕ
   pub front : IsFront bytes text
-  pub gained : Gains (written old) (written new) bytes
-  pub never_falls : faults old ≤ faults new
-  pub cause : (bytes ≡ text) ⊎ Rose (faults old) (faults new)
+  pub got : GotBytes told before now bytes
+  pub never_falls : told.faults before ≤ told.faults now
+  pub cause : (bytes ≡ text) ⊎ Rose (told.faults before) (told.faults now)
 
--- nothing was read, taken of the clock or written
-pub record IsUntouched {S C K : Type 0} (old_source new_source : S) (old_clock new_clock : C) (old_sink new_sink : K) : Type 0 where
-  pub source : new_source ≡ old_source
-  pub clock : new_clock ≡ old_clock
-  pub sink : new_sink ≡ old_sink
+-- what is told in the session of a run, and where it stands
+abbrev pub told_in : {S C K : Type 0} → StreamsTold S C K → SessionTold Tree S C K
+told_in told = session_told told.source (desk_told answering told.clock told.sink)
+
+abbrev pub at : {S C K : Type 0} → Streams S C K → Tree → C → SessionAt Tree S C K
+at objects tree clock = session_at objects.source (desk tree clock objects.sink)
 
 -- The clock gave the first moment, and then a session ran on the tree that was made at it, and led to another.
-pub record Feeds {S C K : Type 0} (taken left : S → Option (List ℕ)) (read_faults : S → ℕ) (given : C → Option (List Moment)) (to_come : C → Option (ℕ → Moment)) (written : K → Option (List ℕ)) (write_faults : K → ℕ) (old_source new_source : S) (old_clock new_clock : C) (old_sink new_sink : K) (end : SessionEnd) : Type 0 where
+pub record Feeds {S C K : Type 0} (told : StreamsTold S C K) (before now : Streams S C K) (end : SessionEnd) : Type 0 where
   pub first : Moment
   pub begun : C
-  pub gave : GaveMoments given to_come old_clock begun (first ∷ [])
+  pub gave : GaveMoments told.clock before.clock begun (first ∷ [])
   pub tree : Tree
-  pub session : SessionRuns answering fsid taken left read_faults given to_come written write_faults (made_at first) tree old_source new_source begun new_clock old_sink new_sink end
+  pub session : SessionRuns (told_in told) (at before (made_at first) begun) (at now tree now.clock) end
 
--- a word list that is no command, and nothing else done
-pub record IsRefused {S C K : Type 0} (words : List (String Global)) (old_source new_source : S) (old_clock new_clock : C) (old_sink new_sink : K) : Type 0 where
-  pub no_command : ¬ IsFeed words
-  pub untouched : IsUntouched old_source new_source old_clock new_clock old_sink new_sink
+-- What the command of the words did, where it ended so: without a session nothing was read, taken of the clock
+-- or written.
+abbrev pub Did : {S C K : Type 0} → StreamsTold S C K → Streams S C K → Streams S C K → RunEnd → Type 0
+Did told before now (Session end) = Feeds told before now end
+Did told before now Usage = now ≡ before
+Did told before now NoMemory = now ≡ before
 
--- memory ran out before anything else
-pub record IsStarved {S C K : Type 0} (words : List (String Global)) (old_source new_source : S) (old_clock new_clock : C) (old_sink new_sink : K) : Type 0 where
-  pub command : IsFeed words
-  pub untouched : IsUntouched old_source new_source old_clock new_clock old_sink new_sink
-
-pub record IsFed {S C K : Type 0} (taken left : S → Option (List ℕ)) (read_faults : S → ℕ) (given : C → Option (List Moment)) (to_come : C → Option (ℕ → Moment)) (written : K → Option (List ℕ)) (write_faults : K → ℕ) (words : List (String Global)) (old_source new_source : S) (old_clock new_clock : C) (old_sink new_sink : K) (end : SessionEnd) : Type 0 where
-  pub command : IsFeed words
-  pub feeds : Feeds taken left read_faults given to_come written write_faults old_source new_source old_clock new_clock old_sink new_sink end
-
--- what the command of the words does, by how it ended
-abbrev pub Outcome : {S C K : Type 0} (taken left : S → Option (List ℕ)) (read_faults : S → ℕ) (given : C → Option (List Moment)) (to_come : C → Option (ℕ → Moment)) (written : K → Option (List ℕ)) (write_faults : K → ℕ) (words : List (String Global)) (old_source new_source : S) (old_clock new_clock : C) (old_sink new_sink : K) → RunEnd → Type 0
-Outcome taken left read_faults given to_come written write_faults words old_source new_source old_clock new_clock old_sink new_sink Usage = IsRefused words old_source new_source old_clock new_clock old_sink new_sink
-Outcome taken left read_faults given to_come written write_faults words old_source new_source old_clock new_clock old_sink new_sink NoMemory = IsStarved words old_source new_source old_clock new_clock old_sink new_sink
-Outcome taken left read_faults given to_come written write_faults words old_source new_source old_clock new_clock old_sink new_sink (Session end) = IsFed taken left read_faults given to_come written write_faults words old_source new_source old_clock new_clock old_sink new_sink end
+-- the words are the command but where the end says that they are not
+pub record Outcome {S C K : Type 0} (told : StreamsTold S C K) (words : List (String Global)) (before now : Streams S C K)
+    (end : RunEnd) : Type 0 where
+  pub usage : (end ≡ Usage) ↔ ¬ IsFeed words
+  pub did : Did told before now end
 
 -- A run: it ended in one way, which its status and the line on the error sink say.
-pub record Runs {S C K E : Type 0} (taken left : S → Option (List ℕ)) (read_faults : S → ℕ) (given : C → Option (List Moment)) (to_come : C → Option (ℕ → Moment)) (written : K → Option (List ℕ)) (write_faults : K → ℕ) (told : E → Option (List ℕ)) (tell_faults : E → ℕ) (words : List (String Global)) (old_source new_source : S) (old_clock new_clock : C) (old_sink new_sink : K) (old_errors new_errors : E) (status : ℕ) : Type 0 where
+pub record Runs {S C K E : Type 0} (seen : Seen S C K E) (words : List (String Global)) (before now : Outside S C K E)
+    (status : ℕ) : Type 0 where
   pub end : RunEnd
   pub status_is : status ≡ status_of end
-  pub outcome : Outcome taken left read_faults given to_come written write_faults words old_source new_source old_clock new_clock old_sink new_sink end
-  pub tells : Tells told tell_faults old_errors new_errors (line_of end)
+  pub outcome : Outcome seen.streams words before.streams now.streams end
+  pub line : GotLine seen.errors before.errors now.errors (line_of end)
 
 -- a status for something else than the bytes that were read: the words, a fault, memory or the number of takes
 abbrev pub IsApart : ℕ → Type 0
 IsApart status = (status ≡ 1) ⊎ (status ≡ 2) ⊎ (status ≡ 3) ⊎ (status ≡ 7) ⊎ (status ≡ 8)
 
 -- The status is that of the course of the text that the source gave, whatever the tree and the moments are.
-pub record EndsByText {S : Type 0} (taken left : S → Option (List ℕ)) (old_source new_source : S) (status : ℕ) : Type 0 where
+pub record EndsByText {S : Type 0} (told : SourceTold S) (before now : S) (status : ℕ) : Type 0 where
   pub text : List ℕ
-  pub gave : GaveBytes taken left old_source new_source text
+  pub takes : ℕ
+  pub gave : GaveBytes told before now takes text
   pub status_is : status ≡ status_of (Session (course (no_reply fsid) text).end)

@@ -1,6 +1,9 @@
 -- The tree that the service answers on: the answer table, in one lane.
 use Rattle.std.specs.Prelude.{ℕ, ◌^◌, List, [], ◌∷◌}
 use Rattle.nfs3_types.specs.declared.moment.Moment.{Moment}
+use Rattle.nfs3_types.specs.declared.cred.Cred.{Cred}
+use Rattle.nfs3_types.specs.declared.reply.Reply.{Reply}
+use Rattle.nfs3_types.specs.Calls.{Call}
 use Rattle.fs_rules.specs.Tree.{Tree, first_tree}
 use Rattle.fs_rules.specs.Answers.{answer, after}
 use Rattle.service.specs.Turns.{Answering}
@@ -22,8 +25,11 @@ abbrev pub not_begun : Tree
 not_begun = made_at (record { seconds = 0; nanos = 0 })
 
 -- the answer table, in the first lane
-unfoldable pub answering : Answering Tree
-answering = record {
-  answer = λ tree cred lent now. answer tree (record { cred = cred; call = lent; now = now; lane = 0 });
-  after = λ tree cred lent now. after tree (record { cred = cred; call = lent; now = now; lane = 0 });
-}
+unfoldable pub answer_in_lane : Tree → Cred → Call → Moment → Reply
+answer_in_lane tree cred call now = answer tree (record { cred = cred; call = call; now = now; lane = 0 })
+
+unfoldable pub after_in_lane : Tree → Cred → Call → Moment → Tree
+after_in_lane tree cred call now = after tree (record { cred = cred; call = call; now = now; lane = 0 })
+
+abbrev pub answering : Answering Tree
+answering = record { fsid = fsid; answer = answer_in_lane; after = after_in_lane }

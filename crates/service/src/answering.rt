@@ -2,10 +2,12 @@
 
 ghost use Rattle.std.specs.Prelude.{◌≡◌, ℕ, ◌≤◌, List, [], None, vec_capacity, OnOk, IfErr};
 ghost use Rattle.rpc_records.specs.Progress.{IsUnfinished, refusal_of};
+ghost use Rattle.service.specs.Session.{desk, desk_told};
 ghost use Rattle.service.specs.Steps.{AnsweredAll, AnsweredUntil, StopHasCause, IsReading, end_of};
 
-use crate::one_call::{LEAST_ROOM, answer_record};
+use crate::one_call::answer_record;
 use crate::put_all::put_all;
+use crate::room::LONGEST_RECORD;
 use crate::tree::Tree;
 use mount3::Exports;
 use outside::{Clock, Sink};
@@ -33,14 +35,17 @@ fn answer_whole<T: Tree, C: Clock, K: Sink>(
     clock: &mut C,
     output: &mut K,
 ) -> Result<(), Stop>
+    requires exports { exports.now.fsid ≡ T.answering.fsid }
     requires accepted { refusal_of records.old ≡ None }
-    requires room { LEAST_ROOM ≤ vec_capacity reply.old }
-    ensures ok { OnOk result (AnsweredAll T.answering exports.now.fsid C.given C.to_come K.written
-        (T.plain tree.old) (T.plain tree.new) clock.old clock.new output.old output.new records.old records.new []) }
+    requires room { LONGEST_RECORD ≤ vec_capacity reply.old }
+    ensures ok { OnOk result (AnsweredAll (desk_told T.answering C.told K.told)
+        (desk (T.plain tree.old) clock.old output.old) (desk (T.plain tree.new) clock.new output.new)
+        records.old records.new []) }
     ensures unfinished { OnOk result (IsUnfinished records.new) }
-    ensures err { IfErr result (λ stop. (more : List ℕ) → AnsweredUntil T.answering exports.now.fsid C.given C.to_come K.written
-        (T.plain tree.old) (T.plain tree.new) clock.old clock.new output.old output.new (end_of stop) records.old more) }
-    ensures cause { StopHasCause (K.faults output.old) (K.faults output.new) result }
+    ensures err { IfErr result (λ stop. (more : List ℕ) → AnsweredUntil (desk_told T.answering C.told K.told)
+        (desk (T.plain tree.old) clock.old output.old) (desk (T.plain tree.new) clock.new output.new)
+        (end_of stop) records.old more) }
+    ensures cause { StopHasCause (K.told.faults output.old) (K.told.faults output.new) result }
     ensures capacity { vec_capacity reply.old ≤ vec_capacity reply.new }
 {
     let Some(content) = records.whole() else {
@@ -68,14 +73,17 @@ pub fn answer_piece<T: Tree, C: Clock, K: Sink>(
     clock: &mut C,
     output: &mut K,
 ) -> Result<(), Stop>
+    requires exports { exports.now.fsid ≡ T.answering.fsid }
     requires reading { IsReading records.old }
-    requires room { LEAST_ROOM ≤ vec_capacity reply.old }
-    ensures ok { OnOk result (AnsweredAll T.answering exports.now.fsid C.given C.to_come K.written
-        (T.plain tree.old) (T.plain tree.new) clock.old clock.new output.old output.new records.old records.new piece.now) }
+    requires room { LONGEST_RECORD ≤ vec_capacity reply.old }
+    ensures ok { OnOk result (AnsweredAll (desk_told T.answering C.told K.told)
+        (desk (T.plain tree.old) clock.old output.old) (desk (T.plain tree.new) clock.new output.new)
+        records.old records.new piece.now) }
     ensures unfinished { OnOk result (IsUnfinished records.new) }
-    ensures err { IfErr result (λ stop. AnsweredUntil T.answering exports.now.fsid C.given C.to_come K.written
-        (T.plain tree.old) (T.plain tree.new) clock.old clock.new output.old output.new (end_of stop) records.old piece.now) }
-    ensures cause { StopHasCause (K.faults output.old) (K.faults output.new) result }
+    ensures err { IfErr result (λ stop. AnsweredUntil (desk_told T.answering C.told K.told)
+        (desk (T.plain tree.old) clock.old output.old) (desk (T.plain tree.new) clock.new output.new)
+        (end_of stop) records.old piece.now) }
+    ensures cause { StopHasCause (K.told.faults output.old) (K.told.faults output.new) result }
     ensures capacity { vec_capacity reply.old ≤ vec_capacity reply.new }
 {
     let mut rest = piece;
@@ -84,10 +92,7 @@ pub fn answer_piece<T: Tree, C: Clock, K: Sink>(
             Ok(n) => rest = &rest[n..],
             Err(_) => return Err(Stop::TooLong),
         }
-        match answer_whole(alloc, exports, tree, records, reply, clock, output) {
-            Ok(()) => {}
-            Err(stop) => return Err(stop),
-        }
+        answer_whole(alloc, exports, tree, records, reply, clock, output)?;
     }
     Ok(())
 }

@@ -1,17 +1,17 @@
 //! The top call.
 
-ghost use Rattle.std.specs.Prelude.{◌≡◌, ◌↔◌, ◌⊎◌, IfOk, OnErr};
-ghost use Rattle.outside.specs.Count.{Rose};
-ghost use Rattle.service.specs.Run.{EndsByText, IsApart, IsFeed, Feeds, IsUntouched, Outcome, Runs, Tells, line_of, status_of};
+ghost use Rattle.std.specs.Prelude.{◌≡◌, ◌↔◌, ◌⊎◌, ◌^◌, IfOk, OnErr};
+ghost use Rattle.nfs3_types.specs.Count.{Rose, RoseBy};
+ghost use Rattle.outside.specs.Seen.{outside, seen, streams, streams_told};
+ghost use Rattle.service.specs.Run.{EndsByText, Feeds, GotLine, IsApart, IsFeed, Outcome, Runs, line_of, status_of};
 
-use crate::one_call::LEAST_ROOM;
 use crate::put_all::put_all;
+use crate::room::Room;
 use crate::served_tree::{FSID, ServedTree};
-use crate::session::{ROOM, SessionEnd, session};
+use crate::session::{SessionEnd, session};
 use crate::words::is_feed;
 use mount3::Exports;
 use outside::{Clock, NoMemory, Sink, Source, Weather};
-use rpc_records::Records;
 use std::alloc::Global;
 
 /// How a run ended.
@@ -63,7 +63,7 @@ fn line(end: RunEnd) -> &'static [u8]
 
 /// Puts the line of an end, or as much of it as the sink takes.
 fn tell<E: Sink>(errors: &mut E, end: RunEnd)
-    ensures { Tells E.written E.faults errors.old errors.new (line_of end) }
+    ensures { GotLine E.told errors.old errors.new (line_of end) }
 {
     let _ = put_all(errors, line(end));
 }
@@ -76,13 +76,12 @@ fn feed<S: Source, C: Clock, K: Sink>(
     clock: &mut C,
     output: &mut K,
 ) -> Result<SessionEnd, NoMemory>
-    ensures ok { IfOk result (λ end. Feeds S.taken S.left S.faults C.given C.to_come K.written K.faults
-        input.old input.new clock.old clock.new output.old output.new end) }
-    ensures err { OnErr result (IsUntouched input.old input.new clock.old clock.new output.old output.new) }
+    ensures ok { IfOk result (λ end. Feeds (streams_told S.told C.told K.told)
+        (streams input.old clock.old output.old) (streams input.new clock.new output.new) end) }
+    ensures err { OnErr result
+        (streams input.new clock.new output.new ≡ streams input.old clock.old output.old) }
 {
-    let mut room = vec![in alloc; 0u8; ROOM]?;
-    let mut reply = Vec::with_capacity(alloc, LEAST_ROOM)?;
-    let mut records = Records::new(alloc)?;
+    let mut room = Room::new(alloc)?;
     let mut tree = ServedTree::new(alloc)?;
     tree.begin(clock.now());
     Ok(session(
@@ -90,8 +89,6 @@ fn feed<S: Source, C: Clock, K: Sink>(
         &Exports { fsid: FSID },
         &mut tree,
         &mut room,
-        &mut records,
-        &mut reply,
         input,
         clock,
         output,
@@ -106,8 +103,8 @@ fn run_command<S: Source, C: Clock, K: Sink>(
     clock: &mut C,
     output: &mut K,
 ) -> RunEnd
-    ensures { Outcome S.taken S.left S.faults C.given C.to_come K.written K.faults words.now
-        input.old input.new clock.old clock.new output.old output.new result }
+    ensures { Outcome (streams_told S.told C.told K.told) words.now
+        (streams input.old clock.old output.old) (streams input.new clock.new output.new) result }
 {
     if !is_feed(words) {
         return RunEnd::Usage;
@@ -130,16 +127,21 @@ pub fn run<S: Source, K: Sink, E: Sink, C: Clock, W: Weather>(
     clock: &mut C,
     weather: &mut W,
 ) -> u8
-    ensures runs { Runs S.taken S.left S.faults C.given C.to_come K.written K.faults E.written E.faults words.now
-        input.old input.new clock.old clock.new output.old output.new errors.old errors.new result }
-    ensures by_text { IsApart result ⊎ EndsByText S.taken S.left input.old input.new result }
+    ensures runs { Runs (seen (streams_told S.told C.told K.told) E.told) words.now
+        (outside (streams input.old clock.old output.old) errors.old)
+        (outside (streams input.new clock.new output.new) errors.new) result }
+    ensures by_text { IsApart result ⊎ EndsByText S.told input.old input.new result }
     // Where neither count rose, only want of memory and 2^48 takes are such statuses.
-    ensures complete { IsFeed words.now → ¬ Rose (S.faults input.old) (S.faults input.new) → ¬ Rose (K.faults output.old) (K.faults output.new)
-        → (result ≡ 7) ⊎ (result ≡ 8) ⊎ EndsByText S.taken S.left input.old input.new result }
+    ensures complete { IsFeed words.now
+        → ¬ Rose (S.told.faults input.old) (S.told.faults input.new)
+        → ¬ Rose (K.told.faults output.old) (K.told.faults output.new)
+        → (result ≡ 7) ⊎ (result ≡ 8) ⊎ EndsByText S.told input.old input.new result }
     ensures usage { (result ≡ 1) ↔ ¬ IsFeed words.now }
-    ensures read_fault { result ≡ 2 → Rose (S.faults input.old) (S.faults input.new) }
-    ensures write_fault { result ≡ 3 → Rose (K.faults output.old) (K.faults output.new) }
-    ensures no_memory { result ≡ 7 → IsUntouched input.old input.new clock.old clock.new output.old output.new }
+    ensures read_fault { result ≡ 2 → Rose (S.told.faults input.old) (S.told.faults input.new) }
+    ensures write_fault { result ≡ 3 → Rose (K.told.faults output.old) (K.told.faults output.new) }
+    ensures no_memory { result ≡ 7
+        → streams input.new clock.new output.new ≡ streams input.old clock.old output.old }
+    ensures many_reads { result ≡ 8 → RoseBy (2 ^ 48) (S.told.takes input.old) (S.told.takes input.new) }
     ensures weather { weather.new ≡ weather.old }
 {
     let end = run_command(alloc, words, input, clock, output);

@@ -1,14 +1,16 @@
 //! Answering one record.
 
 ghost use Rattle.std.specs.Prelude.{◌≡◌, ◌≤◌, ◌%◌, [], length, IfOk, OnOk, OnErr, IfErr, vec_capacity};
+ghost use Rattle.nfs3_fits.specs.declared.laws.TheConstants.{LONGEST_REPLY};
 ghost use Rattle.nfs3_res.specs.Spelled.{IsSpelled};
+ghost use Rattle.nfs3_types.specs.Replies.{outcome_of, result_of};
 ghost use Rattle.rpc_msg.specs.Auth.{words_in};
 ghost use Rattle.rpc_route.specs.Immediate.{Bad, immediate_reply};
-ghost use Rattle.rpc_route.specs.Sealing.{sealed};
 ghost use Rattle.rpc_route.specs.Routing.{caller_of};
 ghost use Rattle.service.specs.Turns.{cred_of};
-ghost use Rattle.service.specs.Steps.{TakesTurn, TakesCall, MovesOrStays};
+ghost use Rattle.service.specs.Steps.{TakesTurn, TakesCall};
 
+use crate::room::LONGEST_RECORD;
 use crate::tree::Tree;
 use mount3::Exports;
 use nfs3_types::{Call, Cred, Moment, NoMemory, Reply, own_call};
@@ -16,9 +18,6 @@ use outside::Clock;
 use rpc_msg::{HeadFault, Who, own_cred};
 use rpc_route::{RouteFault, Routed, route, seal, seal_system};
 use std::alloc::Global;
-
-/// How many bytes of room a reply buffer keeps: those of the reply that says that memory ran out.
-pub const LEAST_ROOM: usize = 28;
 
 /// Who calls, owned, as the tree is told.
 fn own_caller(alloc: Global, uid: u32, gid: u32, gids: &[u8]) -> Result<Cred, NoMemory>
@@ -37,9 +36,12 @@ fn ask<T: Tree>(
     moment: Moment,
 ) -> Result<Reply, NoMemory>
     requires whole { length who.now.gids.now % 4 ≡ 0 }
-    ensures ok { IfOk result (λ reply. reply ≡ T.answering.answer (T.plain tree.old) (cred_of (caller_of who.now)) call.now moment) }
+    ensures ok { IfOk result (λ reply. reply ≡ T.answering.answer (T.plain tree.old) (cred_of (caller_of who.now)) call.now
+        moment) }
     ensures spelled { IfOk result (λ reply. IsSpelled reply) }
-    ensures next { OnOk result (T.plain tree.new ≡ T.answering.after (T.plain tree.old) (cred_of (caller_of who.now)) call.now moment) }
+    ensures short { IfOk result (λ reply. (result_of reply.procedure).size (outcome_of reply) ≤ LONGEST_REPLY) }
+    ensures next { OnOk result (T.plain tree.new ≡ T.answering.after (T.plain tree.old) (cred_of (caller_of who.now)) call.now
+        moment) }
     ensures err { OnErr result (T.plain tree.new ≡ T.plain tree.old) }
 {
     let cred = own_caller(alloc, who.uid, who.gid, who.gids)?;
@@ -47,29 +49,7 @@ fn ask<T: Tree>(
     tree.answer(alloc, &cred, &own, moment)
 }
 
-/// Answers a call, where memory suffices.
-fn try_call<T: Tree>(
-    alloc: Global,
-    tree: &mut T,
-    xid: u32,
-    who: &Who<'_>,
-    call: &Call<'_>,
-    moment: Moment,
-    out: &mut Vec<u8>,
-) -> Result<(), NoMemory>
-    requires whole { length who.now.gids.now % 4 ≡ 0 }
-    requires empty { out.old.items ≡ [] }
-    ensures reply { OnOk result (out.new.items ≡ sealed xid (T.answering.answer (T.plain tree.old) (cred_of (caller_of who.now)) call.now moment)) }
-    ensures next { OnOk result (T.plain tree.new ≡ T.answering.after (T.plain tree.old) (cred_of (caller_of who.now)) call.now moment) }
-    ensures none { OnErr result (out.new.items ≡ []) }
-    ensures tree { OnErr result (MovesOrStays (T.plain tree.old) (T.plain tree.new) (T.answering.after (T.plain tree.old) (cred_of (caller_of who.now)) call.now moment)) }
-    ensures capacity { vec_capacity out.old ≤ vec_capacity out.new }
-{
-    let reply = ask(alloc, tree, who, call, moment)?;
-    seal(xid, &reply, out)
-}
-
-/// Answers a call, or says that memory ran out.
+/// Answers a call, or says that memory ran out before it took effect.
 fn answer_call<T: Tree>(
     alloc: Global,
     tree: &mut T,
@@ -81,18 +61,22 @@ fn answer_call<T: Tree>(
 )
     requires whole { length who.now.gids.now % 4 ≡ 0 }
     requires empty { out.old.items ≡ [] }
-    requires room { LEAST_ROOM ≤ vec_capacity out.old }
-    ensures taken { TakesCall T.answering (T.plain tree.old) (T.plain tree.new) xid (caller_of who.now) call.now moment out.new.items }
+    requires room { LONGEST_RECORD ≤ vec_capacity out.old }
+    ensures taken { TakesCall T.answering (T.plain tree.old, T.plain tree.new) (caller_of who.now)
+        call.now moment xid out.new.items }
     ensures capacity { vec_capacity out.old ≤ vec_capacity out.new }
 {
-    let Ok(()) = try_call(alloc, tree, xid, who, call, moment, out) else {
+    let Ok(reply) = ask(alloc, tree, who, call, moment) else {
         seal_system(xid, out);
         return;
+    };
+    let Ok(()) = seal(xid, &reply, out) else {
+        unreachable!()
     };
 }
 
 /// Answers a record into `out`, unless it is no call. One that needs the tree takes a moment of the clock
-/// first. Where memory lacks for the reply, it is the one that says so.
+/// first. Where memory lacks for the call, the reply is the one that says so.
 pub fn answer_record<T: Tree, C: Clock>(
     alloc: Global,
     exports: &Exports,
@@ -101,9 +85,11 @@ pub fn answer_record<T: Tree, C: Clock>(
     clock: &mut C,
     out: &mut Vec<u8>,
 ) -> Result<(), HeadFault>
-    requires { LEAST_ROOM ≤ vec_capacity out.old }
-    ensures ok { OnOk result (TakesTurn T.answering exports.now.fsid C.given C.to_come (T.plain tree.old) (T.plain tree.new) clock.old clock.new content.now out.new.items) }
-    ensures err { IfErr result (λ fault. immediate_reply exports.now.fsid content.now ≡ Bad fault) }
+    requires exports { exports.now.fsid ≡ T.answering.fsid }
+    requires room { LONGEST_RECORD ≤ vec_capacity out.old }
+    ensures ok { OnOk result (TakesTurn T.answering C.told (T.plain tree.old, clock.old)
+        (T.plain tree.new, clock.new) content.now out.new.items) }
+    ensures err { IfErr result (λ fault. immediate_reply T.answering.fsid content.now ≡ Bad fault) }
     ensures same_tree { OnErr result (T.plain tree.new ≡ T.plain tree.old) }
     ensures no_moment { OnErr result (clock.new ≡ clock.old) }
     ensures capacity { vec_capacity out.old ≤ vec_capacity out.new }
@@ -117,9 +103,6 @@ pub fn answer_record<T: Tree, C: Clock>(
             Ok(())
         }
         Err(RouteFault::BadRecord(fault)) => Err(fault),
-        Err(RouteFault::NoMemory(starved)) => {
-            seal_system(starved, out);
-            Ok(())
-        }
+        Err(RouteFault::NoMemory(_)) => unreachable!(),
     }
 }

@@ -1,14 +1,14 @@
 //! The tree that is served.
 
 ghost use Rattle.std.specs.Prelude.{◌≡◌, IfOk};
-ghost use Rattle.fs_sound.specs.Links.{IsSound};
+ghost use Rattle.fs_rules.specs.Sound.{IsSound};
 ghost use Rattle.plain_tree.specs.Trees.{tree_of};
 ghost use Rattle.service.specs.Served.{answering, made_at, not_begun};
 
 use crate::tree::Tree;
 use fs_laws::replies_have_shape;
 use fs_sound::{calls_keep_trees_sound, first_tree_is_sound};
-use nfs3_fits::spelled;
+use nfs3_fits::{replies_are_short, spelled};
 use nfs3_types::{Cred, Moment, NoMemory, OwnCall, Reply};
 use plain_tree::Plain;
 use std::alloc::Global;
@@ -59,7 +59,7 @@ impl Tree for ServedTree {
 
     ghost plain = { λ served. tree_of served.tree };
 
-    #[tactic(auto, unfolding(crate::specs::Served::answering))]
+    #[tactic(auto, unfolding(crate::specs::Served::answer_in_lane, crate::specs::Served::after_in_lane))]
     fn answer(
         &mut self,
         alloc: Global,
@@ -71,6 +71,7 @@ impl Tree for ServedTree {
         calls_keep_trees_sound();
         let reply = self.tree.answer(alloc, cred, call, moment, LANE)?;
         spelled(&reply);
+        replies_are_short();
         Ok(reply)
     }
 }

@@ -1,20 +1,16 @@
 //! A session: all records of a stream, one after another.
 
-ghost use Rattle.std.specs.Prelude.{◌≡◌, ◌≤◌, ◌<◌, length, vec_capacity};
-ghost use Rattle.rpc_records.specs.Progress.{fresh};
-ghost use Rattle.service.specs.SessionRuns.{SessionRuns};
+ghost use Rattle.std.specs.Prelude.{◌≡◌};
+ghost use Rattle.service.specs.Room.{IsRoom};
+ghost use Rattle.service.specs.Session.{SessionRuns, desk, desk_told, session_at, session_told};
 ghost use Rattle.service.specs.Steps.{end_of};
 
 use crate::answering::{Stop, answer_piece};
-use crate::one_call::LEAST_ROOM;
+use crate::room::Room;
 use crate::tree::Tree;
 use mount3::Exports;
 use outside::{Clock, Sink, Source};
-use rpc_records::Records;
 use std::alloc::Global;
-
-/// The most bytes of one take.
-pub const ROOM: usize = 4096;
 
 /// How many takes that give a byte a session makes.
 const MOST_TAKES: u64 = 1 << 48;
@@ -50,31 +46,28 @@ fn end_of(stop: Stop) -> SessionEnd
 }
 
 /// Answers the records of the input in order, each reply written whole before the next record is
-/// looked at. Where memory lacks for a reply, the one that says so takes its place.
+/// looked at. Where memory lacks for a call, the reply that says so takes the place of its own.
 pub fn session<T: Tree, S: Source, C: Clock, K: Sink>(
     alloc: Global,
     exports: &Exports,
     tree: &mut T,
-    room: &mut [u8],
-    records: &mut Records,
-    reply: &mut Vec<u8>,
+    room: &mut Room,
     input: &mut S,
     clock: &mut C,
     output: &mut K,
 ) -> SessionEnd
-    requires some { 0 < length room.old }
-    requires most { length room.old ≤ ROOM }
-    requires records { records.old ≡ fresh }
-    requires reply { LEAST_ROOM ≤ vec_capacity reply.old }
-    ensures { SessionRuns T.answering exports.now.fsid S.taken S.left S.faults C.given C.to_come K.written K.faults
-        (T.plain tree.old) (T.plain tree.new) input.old input.new clock.old clock.new output.old output.new result }
+    requires exports { exports.now.fsid ≡ T.answering.fsid }
+    requires room { IsRoom room.old }
+    ensures { SessionRuns (session_told S.told (desk_told T.answering C.told K.told))
+        (session_at input.old (desk (T.plain tree.old) clock.old output.old))
+        (session_at input.new (desk (T.plain tree.new) clock.new output.new)) result }
 {
     for _turn in 0..MOST_TAKES {
-        let Ok(n) = input.take(room) else {
+        let Ok(n) = input.take(&mut room.buffer) else {
             return SessionEnd::ReadFault;
         };
         if n == 0 {
-            if records.at_edge() {
+            if room.records.at_edge() {
                 return SessionEnd::Done;
             }
             return SessionEnd::CutRecord;
@@ -83,9 +76,9 @@ pub fn session<T: Tree, S: Source, C: Clock, K: Sink>(
             alloc,
             exports,
             tree,
-            &room[..n],
-            records,
-            reply,
+            &room.buffer[..n],
+            &mut room.records,
+            &mut room.reply,
             clock,
             output,
         ) {

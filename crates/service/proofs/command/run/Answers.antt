@@ -1,10 +1,53 @@
-use Rattle.service.proofs.RunSteps.{apart-or_by_text, complete}
+use Rattle.outside.specs.Seen.{streams, streams_told}
+use Rattle.service.proofs.RunSteps.{apart-or_by_text, complete, many-took, no_memory-same, read_fault-rose, usage-is}
+use Rattle.service.proofs.RunSteps.{write_fault-rose}
 use Rattle.service.proofs.command.run.Goals as goal
 
 pub returns-clause-by_text : goal.returns-clause-by_text
 returns-clause-by_text g c =
-    apart-or_by_text g.S.Source.taken g.S.Source.left g.S.Source.faults g.C.Clock.given g.C.Clock.to_come g.K.Sink.written g.K.Sink.faults c.args.words.now c.args.input.now c.run_command-end.new.input c.args.clock.now c.run_command-end.new.clock c.args.output.now c.run_command-end.new.output c.run_command-end.result c.status.result c.status.ensures c.run_command-end.ensures
+    apart-or_by_text (streams_told g.S.Source.told g.C.Clock.told g.K.Sink.told) c.args.words.now
+    (streams c.args.input.now c.args.clock.now c.args.output.now) (streams c.run_command-end.new.input
+    c.run_command-end.new.clock c.run_command-end.new.output)
+    c.run_command-end.result c.status.result c.status.ensures c.run_command-end.ensures
 
 pub returns-clause-complete : goal.returns-clause-complete
 returns-clause-complete g c feed read write =
-    complete g.S.Source.taken g.S.Source.left g.S.Source.faults g.C.Clock.given g.C.Clock.to_come g.K.Sink.written g.K.Sink.faults c.args.words.now c.args.input.now c.run_command-end.new.input c.args.clock.now c.run_command-end.new.clock c.args.output.now c.run_command-end.new.output c.run_command-end.result c.status.result c.status.ensures c.run_command-end.ensures feed read write
+    complete (streams_told g.S.Source.told g.C.Clock.told g.K.Sink.told) c.args.words.now
+    (streams c.args.input.now c.args.clock.now c.args.output.now) (streams c.run_command-end.new.input
+    c.run_command-end.new.clock c.run_command-end.new.output)
+    c.run_command-end.result c.status.result c.status.ensures c.run_command-end.ensures feed read write
+
+pub returns-clause-usage : goal.returns-clause-usage
+returns-clause-usage g c =
+    usage-is (streams_told g.S.Source.told g.C.Clock.told g.K.Sink.told) c.args.words.now
+    (streams c.args.input.now c.args.clock.now c.args.output.now) (streams c.run_command-end.new.input
+    c.run_command-end.new.clock c.run_command-end.new.output)
+    c.run_command-end.result c.status.result c.status.ensures c.run_command-end.ensures
+
+pub returns-clause-read_fault : goal.returns-clause-read_fault
+returns-clause-read_fault g c =
+    read_fault-rose (streams_told g.S.Source.told g.C.Clock.told g.K.Sink.told) c.args.words.now
+    (streams c.args.input.now c.args.clock.now c.args.output.now) (streams c.run_command-end.new.input
+    c.run_command-end.new.clock c.run_command-end.new.output)
+    c.run_command-end.result c.status.result c.status.ensures c.run_command-end.ensures
+
+pub returns-clause-write_fault : goal.returns-clause-write_fault
+returns-clause-write_fault g c =
+    write_fault-rose (streams_told g.S.Source.told g.C.Clock.told g.K.Sink.told) c.args.words.now
+    (streams c.args.input.now c.args.clock.now c.args.output.now) (streams c.run_command-end.new.input
+    c.run_command-end.new.clock c.run_command-end.new.output)
+    c.run_command-end.result c.status.result c.status.ensures c.run_command-end.ensures
+
+pub returns-clause-no_memory : goal.returns-clause-no_memory
+returns-clause-no_memory g c =
+    no_memory-same (streams_told g.S.Source.told g.C.Clock.told g.K.Sink.told) c.args.words.now
+    (streams c.args.input.now c.args.clock.now c.args.output.now) (streams c.run_command-end.new.input
+    c.run_command-end.new.clock c.run_command-end.new.output)
+    c.run_command-end.result c.status.result c.status.ensures c.run_command-end.ensures
+
+pub returns-clause-many_reads : goal.returns-clause-many_reads
+returns-clause-many_reads g c =
+    many-took (streams_told g.S.Source.told g.C.Clock.told g.K.Sink.told) c.args.words.now
+    (streams c.args.input.now c.args.clock.now c.args.output.now) (streams c.run_command-end.new.input
+    c.run_command-end.new.clock c.run_command-end.new.output)
+    c.run_command-end.result c.status.result c.status.ensures c.run_command-end.ensures

@@ -3,4 +3,5 @@ use Rattle.service.proofs.put_all.put_all.Goals as goal
 
 pub loop-rest-preserved : goal.loop-rest-preserved
 loop-rest-preserved g c =
-    put_more g.K.Sink.written g.K.Sink.faults c.args.sink.now c.loop-rest.sink c.put.new.self c.args.part.now c.loop-rest.rest.now c.in-Ok.n c.loop-rest.invariant (c.in-Ok.ensures.ok) c.in-Ok.ensures.cause.never_falls
+    put_more g.K.Sink.told c.args.sink.now c.loop-rest.sink c.put.new.self c.args.part.now c.loop-rest.rest.now c.in-Ok.n
+    c.loop-rest.invariant (c.in-Ok.ensures.ok) c.in-Ok.ensures.cause.never_falls
