@@ -6,7 +6,8 @@
 The folder has `index.tsv`, with a row for each vector (name, words, status, bytes_in, bytes_out, note), and for each
 the input NAME.in and the output NAME.out. What is wanted is taken from these files alone, never from the program.
 Each vector is run at two sizes of a piece, since no answer depends on the pieces in which the input comes. Inputs that
-fit into one take are also taken a byte at a time, longer ones seven bytes at a time.
+fit into one take are also taken a byte at a time, longer ones seven bytes at a time. The longest outputs are wanted
+once, at the small size, since what a program of the gate prints has to stay below a mebibyte.
 """
 
 import csv
@@ -36,6 +37,10 @@ WHOLE = ["source-fails-at-second-take"]
 LARGE, ONE, FEW = 4096, 1, 7
 
 
+# Outputs of more bytes are wanted once.
+LONG = 30_000
+
+
 def check(holds, why):
     """Ends the script with a word of why, unless it holds."""
     if not holds:
@@ -49,11 +54,12 @@ def read_file(folder, name, size):
     return content
 
 
-def cuts(name, content):
+def cuts(name, content, wanted):
     """The sizes of a piece at which a vector is run."""
     if name in WHOLE:
         return [LARGE]
-    return [LARGE, ONE if len(content) <= LARGE else FEW]
+    small = ONE if len(content) <= LARGE else FEW
+    return [small] if len(wanted) > LONG else [LARGE, small]
 
 
 def cases(folder, row):
@@ -62,7 +68,7 @@ def cases(folder, row):
     content = read_file(folder, f"{name}.in", row["bytes_in"])
     wanted = read_file(folder, f"{name}.out", row["bytes_out"])
     takes, puts = FAULTS.get(name, ("", ""))
-    for cut in cuts(name, content):
+    for cut in cuts(name, content, wanted):
         case = f"{name}/{cut}"
         yield (
             f"{case}\t{words}\t{cut}\t{takes}\t{puts}\t{content.hex()}\n",
