@@ -1,5 +1,6 @@
 """Times `measure paxos`, and prints appends a second and the memory kept for each settled command: the
-difference of the greatest memory of a run and of a run of a tenth, for each further command. Called by `run`."""
+difference of the greatest memory of a run and of a run of a tenth, for each further command. A size of 0 is the
+command `Fresh`, any other a `Write` of a page of so many bytes. Called by `run`."""
 import os
 import sys
 
@@ -18,12 +19,13 @@ def append(program, replicas, size, count):
 def main():
     program, small, large, rounds = sys.argv[1], int(sys.argv[2]), int(sys.argv[3]), int(sys.argv[4])
     for replicas in (3, 5):
-        for size, count in ((100, small), (8192, large)):
+        for size, count in ((0, small), (100, small), (8192, large)):
             runs = [append(program, replicas, size, count) for _ in range(rounds)]
             spent, greatest = min(runs)
             few = append(program, replicas, size, count // 10)[1]
             kept = (greatest - few) * 1024 / (count - count // 10)
-            print(f"{replicas} replicas, {size} bytes: {count / spent:,.0f} appends a second, {kept:,.0f} bytes kept a command")
+            name = f"a page of {size} bytes" if size else "Fresh"
+            print(f"{replicas} replicas, {name}: {count / spent:,.0f} appends a second, {kept:,.0f} bytes kept a command")
 
 
 main()

@@ -1,7 +1,7 @@
 //! Inserts into a tree in memory, and seeks in it.
 
 ghost use Rattle.std.specs.Prelude.{◌≡◌, IfOk};
-ghost use Rattle.btree_edit.specs.Edits.{IsRecord};
+ghost use Rattle.btree_page.specs.Tree.{IsRecord};
 ghost use Rattle.pair_types.specs.MemPages.{state_of};
 
 use crate::counted::Counted;

@@ -21,6 +21,10 @@ impl Pages for Counted {
 
     ghost sound = { λ counted. state_of-sound counted.pages };
 
+    fn stores(&self) -> u32 {
+        self.pages.stores()
+    }
+
     fn read(&mut self, s: Slot) -> Result<&Page, PageFault> {
         self.reads = self.reads.saturating_add(1);
         self.pages.read(s)

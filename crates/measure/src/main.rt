@@ -3,13 +3,12 @@
 //! it is safe and ends.
 //!
 //! `measure btree N` inserts N records into a tree in memory and seeks each; `measure paxos REPLICAS
-//! BYTES N` appends N commands of so many bytes to a group in calm weather; `measure wire N` reads and
-//! writes N mixed calls and replies in memory. Each prints a line for a figure. Any other words are answered
-//! by a line on standard error and status 1.
+//! BYTES N` appends N commands that each write a page of so many bytes to a group in calm weather, or N
+//! `Fresh` where BYTES is 0; `measure wire N` reads and writes N mixed calls and replies in memory. Each
+//! prints a line for a figure. Any other words are answered by a line on standard error and status 1.
 #![tactic(auto)]
 
 mod btree;
-mod command;
 mod counted;
 mod keys;
 mod paxos;
