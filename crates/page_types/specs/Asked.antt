@@ -3,6 +3,7 @@ use Rattle.std.specs.Prelude.{◌≡◌, ℕ, ◌==◌, ◌&&◌, not, if◌then
 use Rattle.std.specs.Prelude.{None, ◌⊎◌}
 use Rattle.std.specs.List.{list_any}
 use Rattle.pair_types.specs.declared.slot.Tid.{Tid}
+use Rattle.nfs3_types.specs.declared.entry.Entry.{Entry}
 use Rattle.page_types.specs.declared.outcome.Outcome.{Outcome}
 use Rattle.page_types.specs.declared.outcome.Outcome.TheVariants.{Commit, Abort}
 use Rattle.page_types.specs.declared.command.Transaction.{Transaction}
@@ -56,7 +57,16 @@ abbrev pub alone_in : Tid → ℕ → Command → Option Alone
 alone_in tid store (Write x) = if is_same x.tid tid then Some (record { store = store; transaction = x }) else None
 alone_in tid store command = None
 
--- the part that was asked of a store, the plan of a transaction, and what one store was asked alone: the first time
+abbrev pub entry_of : Outcome → Option (Option Entry)
+entry_of (Commit entry) = Some entry
+entry_of Abort = None
+
+abbrev pub commit_in : Tid → ℕ → Command → Option (Option Entry)
+commit_in tid store (Decide d) = if is_same d.tid tid then entry_of d.outcome else None
+commit_in tid store command = None
+
+-- the part that was asked of a store, the plan of a transaction, what one store was asked alone, and what a decision to
+-- commit carried: the first time
 abbrev pub part_asked : List JEntry → Tid → ℕ → Option Part
 part_asked es tid store = found (part_in tid store) es
 
@@ -65,6 +75,9 @@ plan_asked es tid = found (plan_in tid) es
 
 abbrev pub alone_asked : List JEntry → Tid → Option Alone
 alone_asked es tid = found (alone_in tid) es
+
+abbrev pub commit_asked : List JEntry → Tid → Option (Option Entry)
+commit_asked es tid = found (commit_in tid) es
 
 abbrev pub is_prepare_of : Tid → Command → Bool
 is_prepare_of tid (Prepare part) = is_same part.tid tid

@@ -19,7 +19,7 @@ use Rattle.page_types.specs.declared.journal.JEntry.{JEntry}
 use Rattle.page_types.specs.declared.journal.JEntry.TheVariants.{Took}
 use Rattle.page_types.specs.Accesses.{read_at, written_at, AreAccesses}
 use Rattle.page_types.specs.Asked.{Plan, plan_of, Alone, first_of, part_asked, plan_asked, alone_asked, WasPrepared, WasTold}
-use Rattle.page_types.specs.Asked.{Names}
+use Rattle.page_types.specs.Asked.{commit_asked, Names}
 
 -- what a page of a store holds at a version, or that it is absent, as far as it is known
 abbrev pub Known : Type 0
@@ -146,6 +146,7 @@ module _ {S : Type 0} (stands : PageMap → S → Type 0) (next : S → List ℕ
     pub plan : Plan
     pub planned : plan_asked es tid ≡ Some plan
     pub home : plan.home ≡ store
+    pub again : IsAgain (commit_asked es tid) e
     pub prepared : (other : ℕ) → Contains plan.parts other → WasPrepared es tid other
     pub are_known : (other : ℕ) (part : Part) → part_asked es tid other ≡ Some part → AreKnown known other part.reads
     pub entry : IsOwnEntry tid e

@@ -12,6 +12,8 @@ use Rattle.page_types.specs.declared.answer.Answer.TheVariants.{Fresh, Busy, Pag
 use Rattle.page_types.specs.declared.answer.Answer.TheVariants.{Prepared, Resolved}
 use Rattle.page_types.specs.declared.journal.JEntry.{JEntry}
 use Rattle.page_types.specs.declared.journal.JEntry.TheVariants.{Took, Doubted}
+use Rattle.page_types.specs.Stores.{StoreState}
+use Rattle.page_types.specs.Obeys.{answer_of}
 use Rattle.page_types.specs.Journals.{Origin, own}
 use Rattle.page_types.specs.Fair.{IsFair}
 
@@ -41,18 +43,24 @@ abbrev pub Grew : Option (List JEntry) → Option (List JEntry) → Type 0
 Grew None now = now ≡ None
 Grew (Some before) now = (part : List JEntry) × (now ≡ Some (part ++ before))
 
--- An answer that a store, among so many, may give: numbers are never used up, and a hold is of stores that are there.
-abbrev pub IsAnswer : ℕ → Answer → Type 0
-IsAnswer stores (Fresh number) = number ≤ 2 ^ 62
-IsAnswer stores (Busy number tid home parts) = (home < stores) × ((other : ℕ) → Contains parts other → other < stores)
-IsAnswer stores (Page version content) = ⊤
-IsAnswer stores (Versions versions) = ⊤
-IsAnswer stores Wrote = ⊤
-IsAnswer stores (Decided outcome) = ⊤
-IsAnswer stores Ended = ⊤
-IsAnswer stores (Conflict number version by) = ⊤
-IsAnswer stores Prepared = ⊤
-IsAnswer stores Resolved = ⊤
+-- what no store, among so many, ever answers is left out: numbers are never used up, and a hold is of stores that are there
+abbrev pub IsWithin : ℕ → Answer → Type 0
+IsWithin stores (Fresh number) = number ≤ 2 ^ 62
+IsWithin stores (Busy number tid home parts) = (home < stores) × ((other : ℕ) → Contains parts other → other < stores)
+IsWithin stores (Page version content) = ⊤
+IsWithin stores (Versions versions) = ⊤
+IsWithin stores Wrote = ⊤
+IsWithin stores (Decided outcome) = ⊤
+IsWithin stores Ended = ⊤
+IsWithin stores (Conflict number version by) = ⊤
+IsWithin stores Prepared = ⊤
+IsWithin stores Resolved = ⊤
+
+-- An answer that a store, among so many, may give to a command: it gives it in some state.
+pub record IsAnswer (stores : ℕ) (command : Command) (answer : Answer) : Type 0 where
+  pub state : StoreState
+  pub given : answer_of state command ≡ answer
+  pub within : IsWithin stores answer
 
 -- the pass has an entry more, the doubted command
 abbrev pub IsDoubted : PortState → PortState → ℕ → Command → Type 0
@@ -61,7 +69,7 @@ IsDoubted old new store command = new.mine ≡ Doubted old.pass store command �
 -- what a step's answer says of the pass's entries
 abbrev pub Gains : PortState → PortState → ℕ → Command → Result Answer StepFault → Type 0
 Gains old new store command (Ok answer) =
-    (new.mine ≡ Took old.pass store command answer ∷ old.mine) × IsAnswer old.origin.stores answer
+    (new.mine ≡ Took old.pass store command answer ∷ old.mine) × IsAnswer old.origin.stores command answer
 Gains old new store command (Err fault.Doubt) = IsDoubted old new store command × Rose old.doubts new.doubts
 Gains old new store command (Err fault.NoMemory) = (new.mine ≡ old.mine) ⊎ IsDoubted old new store command
 Gains old new store command (Err fault.Stopped) = (new.mine ≡ old.mine) × Rose old.stops new.stops
