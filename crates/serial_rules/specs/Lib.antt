@@ -1,0 +1,10 @@
+pub mod Worlds
+pub mod Contents
+pub mod Lawful
+pub mod Committed
+pub mod History
+pub mod Serial
+pub mod Versions
+pub mod Crossed
+pub mod Once
+pub mod Sample
