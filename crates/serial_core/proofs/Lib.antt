@@ -1,0 +1,15 @@
+pub mod Basics
+pub mod Refusals
+pub mod Asks
+pub mod Moves
+pub mod Slots
+pub mod Holds
+pub mod Pages
+pub mod Decides
+pub mod Commands
+pub mod Law
+pub mod Serves
+pub mod Own
+pub mod Fairly
+pub mod Sampling
+pub mod Once
