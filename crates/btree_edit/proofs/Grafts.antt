@@ -4,7 +4,6 @@ use Rattle.std.specs.Prelude.{slice_get, MatchResult}
 use Rattle.std.specs.List.{insert}
 use Rattle.std.proofs.lemmas.Bool.{cases_lt}
 use Rattle.std.proofs.lemmas.List.Edits.{length-insert}
-use Rattle.std.proofs.lemmas.List.Elements.{All-append, All-weaker}
 use Rattle.std.proofs.lemmas.Cmp.{tied_itself}
 use Rattle.std.specs.declared.cmp.Ordering.{Ordering}
 use Rattle.std.specs.declared.cmp.Ordering.TheVariants.{Less, Greater}
@@ -16,7 +15,7 @@ use Rattle.pair_types.specs.declared.fault.PairFault.TheVariants.{Odd, HeightFul
 use Rattle.pair_types.specs.PageMaps.{PageMap, Extends, laid, over, latest, page_of}
 use Rattle.pair_types.specs.PageState.{PageState, IsSound, Reads}
 use Rattle.btree_page.specs.Content.{Bound, bound_cmp, Entry, Content, Spells, bound_of, inner_entry}
-use Rattle.btree_page.specs.Tree.{IsIn, AllIn, Among, quad_bound, Child, child_cell, Kids, Subtree}
+use Rattle.btree_page.specs.Tree.{IsIn, AllIn, Among, Child, child_cell, Kids, Subtree}
 use Rattle.btree_page.proofs.Trees.{among_left, among_right, among_either, has_one_content}
 use Rattle.btree_search.specs.declared.aim.Aim.{Aim}
 use Rattle.btree_search.specs.declared.aim.Aim.TheVariants.{AtOrAfter, After}
@@ -25,21 +24,22 @@ use Rattle.btree_search.specs.Find.{BeginsAt}
 use Rattle.btree_search.specs.Found.{OnlyReads, HasCause}
 use Rattle.btree_search.specs.Walk.{InStores, IsShown, LeadsAt}
 use Rattle.btree_search.proofs.Order.{bound_total, turned}
+use Rattle.btree_search.proofs.Ways.{no_page, shown_within}
 use Rattle.btree_edit.specs.declared.change.Change.{Change}
 use Rattle.btree_edit.specs.declared.change.Change.TheVariants.{Remove, End, Replace, Insert}
 use Rattle.btree_edit.specs.declared.outcome.Edited.{Edited}
 use Rattle.btree_edit.specs.declared.outcome.Edited.TheVariants.{Missing, Below, Page, Two}
-use Rattle.btree_edit.specs.Edits.{bound_at, Nothing, Lacks, IsLonger}
+use Rattle.btree_edit.specs.Edits.{bound_at}
 use Rattle.btree_edit.specs.Edited.{Room, room_in, IsOpen, Frame, GoesOn}
 use Rattle.btree_edit.specs.Changes.{pair_of, edit_of, given_of, open_of}
-use Rattle.btree_edit.specs.Below.{Bears, IsMet, Changed, ChangesTo, Parted, IsNotMet, StaysFrom, Grows, Divides, IsEdited, EditsBelow, PutsTwo, GaveUp, Grafts, IsNoGraft}
+use Rattle.btree_edit.specs.Below.{Bears, IsMet, Changed, ChangesTo, Parted, IsNotMet, StaysFrom, Grows, Finds, FindsBelow, Divides, IsEdited, EditsBelow, PutsTwo, GaveUp, Grafts, IsNoGraft}
 use Rattle.btree_edit.proofs.Least.{least_first, up_to}
 use Rattle.btree_edit.proofs.Opened.{Seated, closed, bears_keep, kids_present, some_not_none, slot_cases}
 use Rattle.btree_edit.proofs.Seats.{from_of, to_of}
 use Rattle.btree_edit.proofs.Rebuilt.{not_open, some_held, reseated, unread_before, parted_before}
 use Rattle.btree_edit.proofs.Divided.{divided}
-use Rattle.btree_edit.proofs.States.{goes_only, goes_then, reads_latest, shown_within, MetChild, met_child, no_page}
-use Rattle.btree_edit.proofs.Steps.{level_above, stays_up, met_earlier, local_of, partial_of}
+use Rattle.btree_edit.proofs.States.{goes_only, goes_then, reads_latest, MetChild, met_child}
+use Rattle.btree_edit.proofs.Steps.{level_above, stays_up, met_earlier, local_of, partial_of, finds_up, grows_up}
 
 pub bears_present : (q : PageMap) (level : ℕ) (cells : List Entry) (low : Bound) (high : Option Bound) (quads : List Quad) (below : List Slot)
     → Bears q level cells low high quads below → (s : Slot) → Among s below → IsSome (q s)
@@ -207,9 +207,6 @@ open_free (End key birth death) store a p s old new content grows absent there u
 open_free (Replace q) store a p s old new content grows absent there unread = (absent, (there, unread))
 open_free (Insert q) store a p s old new content grows absent there unread = (absent, (there, unread))
 
-longer_lacks : (q : Quad) (quads : List Quad) → Lacks (quad_bound q) quads → IsLonger q quads
-longer_lacks q quads h = All-weaker (λ r. quad_bound r ≢ quad_bound q) (λ r. quad_bound r ≡ quad_bound q → length r.value < length q.value) (λ r lacks same. absurd (lacks same)) quads h
-
 -- all that is known where a child was divided and its parts were put
 pub record WasPut (change : Change) (store : ℕ) (a b c d : PageState) (content below : Content) (past i : ℕ) (slot : Slot) (page left : List ℕ) (bound : Bound) (right : List ℕ) (fresh : Slot) : Type 0 where
   pub inner : content.level ≢ 0
@@ -222,6 +219,7 @@ pub record WasPut (change : Change) (store : ℕ) (a b c d : PageState) (content
   pub goes : GoesOn b c
   pub stays : StaysFrom below.level b c
   pub parts : Divides change store b c below left bound right
+  pub finds : Finds change b c below
   pub puts : PutsTwo c d slot left store fresh right
   pub sound : IsSound a
   pub asked : store < a.stores
@@ -255,20 +253,10 @@ met_parts change store a b c d content below past i slot page left bound right f
           (w.parts.parts under s.seat.from s.seat.to s.seat.here s.inner.below before)));
     }
 
-grows_up : (change : Change) (store : ℕ) (a b c d : PageState) (content below : Content) (past i : ℕ) (slot : Slot) (page left : List ℕ) (bound : Bound) (right : List ℕ) (fresh : Slot)
+graft_grows : (change : Change) (store : ℕ) (a b c d : PageState) (content below : Content) (past i : ℕ) (slot : Slot) (page left : List ℕ) (bound : Bound) (right : List ℕ) (fresh : Slot)
     → WasPut change store a b c d content below past i slot page left bound right fresh → Grows change a d content
-grows_up (Remove key birth) store a b c d content below past i slot page left bound right fresh w = w.parts.grows
-grows_up (End key birth death) store a b c d content below past i slot page left bound right fresh w = w.parts.grows
-grows_up (Insert q) store a b c d content below past i slot page left bound right fresh w = tt
-grows_up (Replace q) store a b c d content below past i slot page left bound right fresh w = λ under low high quads slots met.
-    let m = met_child Nothing (partial_of (Replace q)) (quad_bound q.now) a b d content below under low high quads slots (content.level - 1) past i slot page met (level_above _ w.inner) w.begins w.at w.leads w.reads
-    (put_later (Replace q) store a b c d content below past i slot page left bound right fresh w) w.shown in
-    let s = m.sought.seat in
-    let before = met_earlier Nothing (quad_bound q.now) b c d below under s.from s.to s.here m.sought.inner.below w.puts.goes_on m.met in
-    let here : IsLonger q.now s.here = w.parts.grows under s.from s.to s.here m.sought.inner.below before in
-    subst (λ (qs : List Quad). IsLonger q.now qs) (sym s.all_quads)
-    (All-append (λ r. quad_bound r ≡ quad_bound q.now → length r.value < length q.now.value) s.before (s.here ++ s.after) (longer_lacks q.now s.before s.lacks_before)
-    (All-append (λ r. quad_bound r ≡ quad_bound q.now → length r.value < length q.now.value) s.here s.after here (longer_lacks q.now s.after s.lacks_after)))
+graft_grows change store a b c d content below past i slot page left bound right fresh w =
+    grows_up change a b c d content below past i slot page w.inner w.begins w.at w.leads w.reads w.goes w.puts.goes_on w.shown w.parts.grows
 
 -- with the second part as a child more, the page has edited records
 graft_changes : (change : Change) (store : ℕ) (a b c d : PageState) (content below : Content) (past i : ℕ) (slot : Slot) (page left : List ℕ) (bound : Bound) (right : List ℕ) (fresh : Slot)
@@ -404,14 +392,14 @@ graft_ok change store a b c d content below past i slot page left bound right fr
   record {
     cells = g.cells;
     spelled = g.made;
-    few = inr (grows_up change store a b c d content below past i slot page left bound right fresh w, graft_few content i bound fresh slot w.leads g.cells g.edit);
+    few = inr (graft_grows change store a b c d content below past i slot page left bound right fresh w, graft_few content i bound fresh slot w.leads g.cells g.edit);
     changes = graft_to change store a b c d content below past i slot page left bound right fresh w g.cells g.edit;
   },
 )
 graft_ok change store a b c d content below past i slot page left bound right fresh (Two l key birth r) w g = (
   graft_stays change store a b c d content below past i slot page left bound right fresh w,
   divided change store a d content g.cells l (bound_at key birth) r (graft_to change store a b c d content below past i slot page left bound right fresh w g.cells g.edit) g.nearly g.made
-      (grows_up change store a b c d content below past i slot page left bound right fresh w) (graft_few content i bound fresh slot w.leads g.cells g.edit),
+      (graft_grows change store a b c d content below past i slot page left bound right fresh w) (graft_few content i bound fresh slot w.leads g.cells g.edit),
 )
 
 graft_fault : (change : Change) (store : ℕ) (a b c d : PageState) (content below : Content) (past i : ℕ) (slot : Slot) (page left : List ℕ) (bound : Bound) (right : List ℕ) (fresh : Slot) (fault : PairFault)
@@ -420,16 +408,27 @@ graft_fault change store a b c d content below past i slot page left bound right
 graft_fault change store a b c d content below past i slot page left bound right fresh HeightFull w g = absurd g
 graft_fault change store a b c d content below past i slot page left bound right fresh (PageGave fault) w g = λ isnt. absurd (isnt g)
 
+graft_finds : (change : Change) (store : ℕ) (a b c d : PageState) (content below : Content) (past i : ℕ) (slot : Slot) (page left : List ℕ) (bound : Bound) (right : List ℕ) (fresh : Slot) (edited : Edited)
+    → WasPut change store a b c d content below past i slot page left bound right fresh → Grafts content (i + 1) bound fresh edited → FindsBelow change a d content (Ok edited)
+graft_finds change store a b c d content below past i slot page left bound right fresh Missing w g = tt
+graft_finds change store a b c d content below past i slot page left bound right fresh Below w g = absurd g.made
+graft_finds change store a b c d content below past i slot page left bound right fresh (Page page') w g =
+    finds_up change a b c d content below past i slot page w.inner w.begins w.at w.leads w.reads w.goes w.puts.goes_on w.shown w.finds
+graft_finds change store a b c d content below past i slot page left bound right fresh (Two l key birth r) w g =
+    finds_up change a b c d content below past i slot page w.inner w.begins w.at w.leads w.reads w.goes w.puts.goes_on w.shown w.finds
+
 pub grafted_below : (change : Change) (store : ℕ) (a b c d : PageState) (content below : Content) (past i : ℕ) (slot : Slot) (page left : List ℕ) (bound : Bound) (right : List ℕ) (fresh : Slot) (result : Result Edited PairFault)
     → WasPut change store a b c d content below past i slot page left bound right fresh
     → MatchResult result (λ edited. Grafts content (i + 1) bound fresh edited) (λ fault. IsNoGraft content (i + 1) bound fault) → EditsBelow change store a d content result
 grafted_below change store a b c d content below past i slot page left bound right fresh (Ok edited) w g = record {
   goes_on = goes_then a b d (goes_only a b w.only) (put_later change store a b c d content below past i slot page left bound right fresh w);
   answer = graft_ok change store a b c d content below past i slot page left bound right fresh edited w g;
+  finds = graft_finds change store a b c d content below past i slot page left bound right fresh edited w g;
 }
 grafted_below change store a b c d content below past i slot page left bound right fresh (Err fault) w g = record {
   goes_on = goes_then a b d (goes_only a b w.only) (put_later change store a b c d content below past i slot page left bound right fresh w);
   answer = graft_fault change store a b c d content below past i slot page left bound right fresh fault w g;
+  finds = tt;
 }
 
 -- the parts could not be put
@@ -437,4 +436,4 @@ pub unput_below : (change : Change) (store : ℕ) (a b c d : PageState) (content
     → OnlyReads a b → EditsBelow change store b c below (Ok edited) → GaveUp c d fault → EditsBelow change store a d content (Err (PageGave fault))
 unput_below change store a b c d content below edited fault only h gave =
     let first = goes_then a b c (goes_only a b only) h.goes_on in
-    record { goes_on = goes_then a c d first gave.goes_on; answer = λ isnt. omega (arith, first.lasts.faults fault, gave.counted isnt) }
+    record { goes_on = goes_then a c d first gave.goes_on; answer = λ isnt. omega (arith, first.lasts.faults fault, gave.counted isnt); finds = tt }

@@ -7,6 +7,7 @@ pub mod Opened
 pub mod Parting
 pub mod Placed
 pub mod Rebuilt
+pub mod Runs
 pub mod Seats
 pub mod States
 pub mod Steps

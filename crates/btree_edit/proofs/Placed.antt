@@ -1,17 +1,16 @@
 -- Cells of a page with one removed, put in the place of another, or put in between.
-use Rattle.std.proofs.Common.{◌≡◌, ◌≢◌, ℕ, zero, suc, ◌+◌, ◌-◌, ◌^◌, ◌<◌, ◌≤◌, Bool, true, false, List, [], ◌∷◌, map, length, take, drop, get_or, set, Option, Some, None, Result, Ok, Err, refl, sym, ap, subst, ◌∙◌, arith}
-use Rattle.std.specs.Prelude.{◌==◌, All, slice_get, IfOk}
+use Rattle.std.proofs.Common.{◌≡◌, ◌≢◌, ℕ, zero, suc, ◌+◌, ◌-◌, ◌^◌, ◌<◌, ◌≤◌, Bool, true, false, List, [], ◌∷◌, map, length, take, drop, get_or, set, add-one, Option, Some, None, Result, Ok, Err, refl, sym, ap, subst, ◌∙◌, arith}
+use Rattle.std.specs.Prelude.{◌==◌, ◌↔◌, All, slice_get, IfOk, IsNone, IsSome}
 use Rattle.std.specs.List.{flat_map, remove, insert}
 use Rattle.std.specs.declared.cmp.Ordering.{Ordering}
 use Rattle.std.specs.declared.cmp.Ordering.TheVariants.{Less, Equal, Greater}
-use Rattle.std.proofs.lemmas.List.{length-append, length-map, map-set}
+use Rattle.std.proofs.lemmas.List.{length-append, set_split}
 use Rattle.std.proofs.lemmas.List.Edits.{length-insert}
 use Rattle.nfs3_types.specs.declared.memory.NoMemory.{NoMemory}
 use Rattle.pair_types.specs.declared.slot.Slot.{Slot}
 use Rattle.pair_types.specs.declared.quad.Quad.{Quad}
 use Rattle.btree_page.specs.declared.cell.Cell.{Cell}
-use Rattle.btree_page.specs.Cells.{entry_of}
-use Rattle.btree_page.specs.Content.{Bound, IsBelow, Body, Carries, Leads, Entry, Content, bound_of, entry_spelling, Fits, FitsBody, Follows, AreCells, IsPage, inner_entry}
+use Rattle.btree_page.specs.Content.{Bound, IsBelow, Body, Carries, Leads, Entry, Content, bound_of, entry_spelling, Fits, FitsBody, Follows, AreCells, IsPage, Spells, inner_entry}
 use Rattle.btree_page.specs.Tree.{quad_bound, quad_cell}
 use Rattle.btree_page.proofs.Built.{leaf_size}
 use Rattle.btree_search.specs.declared.aim.Aim.TheVariants.{AtOrAfter, After}
@@ -21,9 +20,9 @@ use Rattle.btree_search.proofs.Order.{turned}
 use Rattle.btree_search.proofs.Ranges.{is_inner}
 use Rattle.btree_edit.specs.declared.outcome.Edited.{Edited}
 use Rattle.btree_edit.specs.declared.outcome.Edited.TheVariants.{Missing, Below, Page, Two}
-use Rattle.btree_edit.specs.Made.{size, IsNearly, IsMadeOf}
-use Rattle.btree_edit.specs.Changes.{ended_body, ended, RemovesCell, EndsCell, ReplacesCell, InsertsCell, AreMade, Answers}
-use Rattle.btree_edit.proofs.Lists.{size_of_page, size-append, parts_of_cells, joined_cells, at_place, map_remove, above_before}
+use Rattle.btree_edit.specs.Made.{size, with_one, IsNearly, IsMadeOf}
+use Rattle.btree_edit.specs.Changes.{ended_body, ended, RemovesCell, EndsCell, ReplacesCell, InsertsCell, IsMissing, AreMade, Answers}
+use Rattle.btree_edit.proofs.Lists.{size_of_page, size-append, parts_of_cells, joined_cells, at_place, above_before}
 use Rattle.btree_edit.proofs.Parting.{short_body, size_parts}
 use Rattle.btree_edit.proofs.Leaves.{found_at}
 
@@ -126,60 +125,66 @@ leaf_rules content leaf rules =
     let there : IsPage (record { level = 0; cells = content.cells }) = subst (λ (c : Content). IsPage c) whole rules in
     (there.cells, omega (arith, there.size, size_of_page 0 content.cells))
 
-near : (cells : List Entry) → AreCells true None cells → size cells ≤ 9672 → IsNearly 0 cells
-near cells rules few = record { byte = omega arith; rules = rules; least = λ up. absurd (omega arith); few = few }
+near : (content : Content) (cells : List Entry) → content.level ≡ 0 → AreCells true None cells → size cells ≤ 9672 → IsNearly content.level cells
+near content cells leaf rules few =
+    subst (λ (n : ℕ). IsNearly n cells) (sym leaf) (record { byte = omega arith; rules = rules; least = λ up. absurd (omega arith); few = few })
 
-pub counted : (xs : List Cell) (es : List Entry) → map entry_of xs ≡ es → length xs ≡ length es
-counted xs es is = sym (length-map xs entry_of) ∙ ap (λ (ys : List Entry). length ys) is
+whole : (content : Content) (cells : List Entry) → content.level ≡ 0 → AreCells true None cells → size cells ≤ 8188 → IsPage (record { level = content.level; cells = cells })
+whole content cells leaf rules small =
+    subst (λ (n : ℕ). IsPage (record { level = n; cells = cells })) (sym leaf)
+    (record { level = omega arith; cells = rules; least = λ up. absurd (omega arith); size = omega (arith, small, size_of_page 0 cells) })
 
-pub removed_leaf : (pair : Bound) (content : Content) (xs ys zs : List Cell) (at past : ℕ) → content.level ≡ 0 → IsPage content → map entry_of xs ≡ content.cells
-    → BeginsAt AtOrAfter pair content.cells at → BeginsAt After pair content.cells past → at ≢ past → ys ≡ remove xs at → zs ≡ ys
-    → RemovesCell pair content.cells (map entry_of zs) × IsNearly 0 (map entry_of zs)
-removed_leaf pair content xs ys zs at past leaf rules all h k isnt gone same =
+-- one cell for another
+pub set_one : (cells : List Entry) (at : ℕ) (e : Entry) → at < length cells → with_one cells at (at + 1) e ≡ set cells at e
+set_one cells at e lt = ap (λ (n : ℕ). with_one cells at n e) (add-one at) ∙ sym (set_split cells at e lt)
+
+pub removed_leaf : (pair : Bound) (content : Content) (at past : ℕ) → content.level ≡ 0 → IsPage content
+    → BeginsAt AtOrAfter pair content.cells at → BeginsAt After pair content.cells past → at ≢ past
+    → RemovesCell pair content.cells (remove content.cells at) × IsPage (record { level = content.level; cells = remove content.cells at })
+removed_leaf pair content at past leaf rules h k isnt =
     let found = found_at pair content.cells at past h k isnt in
-    let left : map entry_of zs ≡ remove content.cells at =
-    ap (λ (cs : List Cell). map entry_of cs) (same ∙ gone) ∙ (map_remove entry_of xs at ∙ ap (λ (es : List Entry). remove es at) all) in
-    let page = leaf_rules content leaf rules in (
-      record { at = at; within = found.0; place = found.1; now = left; small = omega (arith, page.1, size_remove content.cells at found.0, ap size left) },
-      subst (λ (es : List Entry). IsNearly 0 es) (sym left) (near (remove content.cells at) (removed_cells content.cells at found.0 page.0) (omega (arith, page.1, size_remove content.cells at found.0))),
+    let page = leaf_rules content leaf rules in
+    let small : size (remove content.cells at) ≤ 8188 = omega (arith, page.1, size_remove content.cells at found.0) in (
+      record { at = at; within = found.0; place = found.1; now = refl; small = small },
+      whole content (remove content.cells at) leaf (removed_cells content.cells at found.0 page.0) small,
     )
 
-pub replaced_leaf : (q : Quad) (content : Content) (xs ys zs : List Cell) (x : Cell) (at past : ℕ) → content.level ≡ 0 → IsPage content → map entry_of xs ≡ content.cells
-    → BeginsAt AtOrAfter (quad_bound q) content.cells at → BeginsAt After (quad_bound q) content.cells past → at ≢ past → entry_of x ≡ quad_cell q → Fits true (quad_cell q)
-    → ys ≡ set xs at x → zs ≡ ys
-    → ReplacesCell q content.cells (map entry_of zs) × IsNearly 0 (map entry_of zs)
-replaced_leaf q content xs ys zs x at past leaf rules all h k isnt is fits put same =
+pub replaced_leaf : (q : Quad) (content : Content) (e : Entry) (at past : ℕ) → content.level ≡ 0 → IsPage content
+    → BeginsAt AtOrAfter (quad_bound q) content.cells at → BeginsAt After (quad_bound q) content.cells past → at ≢ past → e ≡ quad_cell q → Fits true (quad_cell q)
+    → ReplacesCell q content.cells (with_one content.cells at (at + 1) e) × IsNearly content.level (with_one content.cells at (at + 1) e)
+replaced_leaf q content e at past leaf rules h k isnt is fits =
     let found = found_at (quad_bound q) content.cells at past h k isnt in
-    let left : map entry_of zs ≡ set content.cells at (quad_cell q) =
-    ap (λ (cs : List Cell). map entry_of cs) (same ∙ put) ∙ (map-set entry_of xs at x ∙ (ap (λ (e : Entry). set (map entry_of xs) at e) is ∙ ap (λ (es : List Entry). set es at (quad_cell q)) all)) in
+    let left : with_one content.cells at (at + 1) e ≡ set content.cells at (quad_cell q) =
+    set_one content.cells at e found.0 ∙ ap (λ (x : Entry). set content.cells at x) is in
     let page = leaf_rules content leaf rules in (
-      record { at = at; within = found.0; place = found.1; now = left },
-      subst (λ (es : List Entry). IsNearly 0 es) (sym left) (near (set content.cells at (quad_cell q)) (set_cells None content.cells at (quad_cell q) page.0 found.0 fits found.1)
+      record { rules = page.0; fitted = page.1; at = at; within = found.0; place = found.1; now = left },
+      subst (λ (es : List Entry). IsNearly content.level es) (sym left)
+          (near content (set content.cells at (quad_cell q)) leaf (set_cells None content.cells at (quad_cell q) page.0 found.0 fits found.1)
           (omega (arith, page.1, size_set content.cells at (quad_cell q), short_body true q.key q.birth (quad_cell q).body fits.key fits.body))),
     )
 
-fits_there : (before : Option Bound) (cells : List Entry) (at : ℕ) (e : Entry) → AreCells true before cells → slice_get cells at ≡ Some e → Fits true e
+pub fits_there : (before : Option Bound) (cells : List Entry) (at : ℕ) (e : Entry) → AreCells true before cells → slice_get cells at ≡ Some e → Fits true e
 fits_there before [] at e h there = absurd cc
 fits_there before (c ∷ cells) zero e h there =
     let same : c ≡ e = cc in subst (λ (x : Entry). Fits true x) same h.0
 fits_there before (c ∷ cells) (suc at) e h there = fits_there (Some (bound_of c)) cells at e h.1.1 there
 
-one_there : (cells : List Entry) (at : ℕ) (x y : Entry) → slice_get cells at ≡ Some x → slice_get cells at ≡ Some y → x ≡ y
+pub one_there : (cells : List Entry) (at : ℕ) (x y : Entry) → slice_get cells at ≡ Some x → slice_get cells at ≡ Some y → x ≡ y
 one_there cells at x y h k = cc
 
-pub ended_leaf : (pair : Bound) (death : ℕ) (content : Content) (xs zs : List Cell) (x : Cell) (at past : ℕ) → content.level ≡ 0 → IsPage content → map entry_of xs ≡ content.cells
+pub ended_leaf : (pair : Bound) (death : ℕ) (content : Content) (x : Entry) (at past : ℕ) → content.level ≡ 0 → IsPage content
     → BeginsAt AtOrAfter pair content.cells at → BeginsAt After pair content.cells past → at ≢ past → death < 2 ^ 64
-    → ((e : Entry) → slice_get content.cells at ≡ Some e → entry_of x ≡ ended death e) → zs ≡ set xs at x
-    → EndsCell pair death content.cells (map entry_of zs) × IsNearly 0 (map entry_of zs)
-ended_leaf pair death content xs zs x at past leaf rules all h k isnt lt is put =
+    → ((e : Entry) → slice_get content.cells at ≡ Some e → x ≡ ended death e)
+    → EndsCell pair death content.cells (with_one content.cells at (at + 1) x) × IsNearly content.level (with_one content.cells at (at + 1) x)
+ended_leaf pair death content x at past leaf rules h k isnt lt is =
     let found = found_at pair content.cells at past h k isnt in
     let page = leaf_rules content leaf rules in
     let e = at_place content.cells at found.0 in
     let new = ended death e.0 in
-    let left : map entry_of zs ≡ set content.cells at new =
-    ap (λ (cs : List Cell). map entry_of cs) put ∙ (map-set entry_of xs at x ∙ (ap (λ (y : Entry). set (map entry_of xs) at y) (is e.0 e.1) ∙ ap (λ (es : List Entry). set es at new) all)) in
+    let left : with_one content.cells at (at + 1) x ≡ set content.cells at new =
+    set_one content.cells at x found.0 ∙ ap (λ (y : Entry). set content.cells at y) (is e.0 e.1) in
     let small : size (set content.cells at new) ≤ 8188 = omega (arith, page.1, size_swap content.cells at e.0 new e.1, ended_size death e.0) in
-    let near_new = near (set content.cells at new)
+    let near_new = near content (set content.cells at new) leaf
     (set_cells None content.cells at new page.0 found.0 (ended_fits death lt e.0 (fits_there None content.cells at e.0 page.0 e.1)) (λ y there. ap (λ (z : Entry). bound_of z) (one_there content.cells at y e.0 there e.1)))
     (omega (arith, small)) in (
       record {
@@ -189,17 +194,13 @@ ended_leaf pair death content xs zs x at past leaf rules all h k isnt lt is put 
         now = λ y there. left ∙ ap (λ (z : Entry). set content.cells at (ended death z)) (one_there content.cells at e.0 y e.1 there);
         small = omega (arith, small, ap size left);
       },
-      subst (λ (es : List Entry). IsNearly 0 es) (sym left) near_new,
+      subst (λ (es : List Entry). IsNearly content.level es) (sym left) near_new,
     )
 
--- a cell that stands at a place of the code's list
-pub cell_read : (xs : List Cell) (es : List Entry) (at : ℕ) (d : Cell) (e : Entry) → map entry_of xs ≡ es → slice_get es at ≡ Some e → at < length xs → entry_of (get_or xs at d) ≡ e
-cell_read xs es at d e all there lt = read xs at (subst (λ (ys : List Entry). slice_get ys at ≡ Some e) (sym all) there) lt
-  where
-    read : (xs : List Cell) (at : ℕ) → slice_get (map entry_of xs) at ≡ Some e → at < length xs → entry_of (get_or xs at d) ≡ e
-    read [] at h lt = absurd (omega arith)
-    read (x ∷ xs) zero h lt = cc
-    read (x ∷ xs) (suc at) h lt = read xs at h (omega arith)
+-- a cell that is not missing is there
+pub some_there : (r : Option Cell) (P : Type 0) → (IsNone r ↔ P) → (P → ⊥) → IsSome r
+some_there (Some x) P none away = refl
+some_there None P none away = absurd (away (none.0 refl))
 
 -- what lies before and behind a place where none stands at the pair
 low_so : (o : Ordering) → is_sought AtOrAfter o ≡ false → o ≡ Less
@@ -219,52 +220,52 @@ placed_cells is_leaf pair cells at e rules h k fits is first =
     (λ i x lt there. subst (λ (b : Bound). IsBelow (bound_of x) b) (sym is) (low_so _ (h.before i lt x there)))
     (λ i x up there. subst (λ (b : Bound). IsBelow b (bound_of x)) (sym is) (turned (bound_of x) pair Greater (high_so _ (k.after i up x there))))
 
-map_insert : (xs : List Cell) (at : ℕ) (x : Cell) → map entry_of (insert xs at x) ≡ insert (map entry_of xs) at (entry_of x)
-map_insert [] zero x = refl
-map_insert [] (suc at) x = refl
-map_insert (y ∷ ys) zero x = refl
-map_insert (y ∷ ys) (suc at) x = ap (λ (es : List Entry). entry_of y ∷ es) (map_insert ys at x)
-
-pub inserted_all : (xs ys zs : List Cell) (at : ℕ) (x : Cell) (es : List Entry) (e : Entry) → map entry_of xs ≡ es → entry_of x ≡ e → ys ≡ insert xs at x → zs ≡ ys
-    → map entry_of zs ≡ insert es at e
-inserted_all xs ys zs at x es e all is put same =
-    ap (λ (cs : List Cell). map entry_of cs) (same ∙ put) ∙ (map_insert xs at x ∙ (ap (λ (y : Entry). insert (map entry_of xs) at y) is ∙ ap (λ (ys : List Entry). insert ys at e) all))
-
-pub inserted_leaf : (q : Quad) (content : Content) (xs ys zs : List Cell) (x : Cell) (at past : ℕ) → content.level ≡ 0 → IsPage content → map entry_of xs ≡ content.cells
-    → BeginsAt AtOrAfter (quad_bound q) content.cells at → BeginsAt After (quad_bound q) content.cells past → at ≡ past → entry_of x ≡ quad_cell q → Fits true (quad_cell q)
-    → ys ≡ insert xs at x → zs ≡ ys
-    → InsertsCell q content.cells (map entry_of zs) × IsNearly 0 (map entry_of zs)
-inserted_leaf q content xs ys zs x at past leaf rules all h k same_place is fits put same =
-    let left : map entry_of zs ≡ insert content.cells at (quad_cell q) = inserted_all xs ys zs at x content.cells (quad_cell q) all is put same in
+pub inserted_leaf : (q : Quad) (content : Content) (e : Entry) (at past : ℕ) → content.level ≡ 0 → IsPage content
+    → BeginsAt AtOrAfter (quad_bound q) content.cells at → BeginsAt After (quad_bound q) content.cells past → at ≡ past → e ≡ quad_cell q → Fits true (quad_cell q)
+    → InsertsCell q content.cells (with_one content.cells at at e) × IsNearly content.level (with_one content.cells at at e)
+inserted_leaf q content e at past leaf rules h k same_place is fits =
+    let left : with_one content.cells at at e ≡ insert content.cells at (quad_cell q) = ap (λ (x : Entry). insert content.cells at x) is in
     let page = leaf_rules content leaf rules in
     let there : BeginsAt After (quad_bound q) content.cells at = subst (λ (n : ℕ). BeginsAt After (quad_bound q) content.cells n) (sym same_place) k in (
       record { at = at; within = h.within; now = left },
-      subst (λ (es : List Entry). IsNearly 0 es) (sym left) (near (insert content.cells at (quad_cell q)) (placed_cells true (quad_bound q) content.cells at (quad_cell q) page.0 h there fits refl (λ z. tt))
+      subst (λ (es : List Entry). IsNearly content.level es) (sym left)
+          (near content (insert content.cells at (quad_cell q)) leaf (placed_cells true (quad_bound q) content.cells at (quad_cell q) page.0 h there fits refl (λ z. tt))
           (omega (arith, page.1, size_insert content.cells at (quad_cell q), short_body true q.key q.birth (quad_cell q).body fits.key fits.body))),
     )
 
 -- ---- the answer
 
-pub answered_so : (Edit : List Entry → Type 0) (Missed : Type 0) (cells : List Entry) (edited : Edited) → Edit cells → IsNearly 0 cells → IsMadeOf 0 cells edited → Answers Edit Missed edited
+answered_so : (Edit : List Entry → Type 0) (Missed : Type 0) (cells : List Entry) (edited : Edited) → Edit cells → IsNearly 0 cells → IsMadeOf 0 cells edited → Answers Edit Missed edited
 answered_so Edit Missed cells Missing edit nearly made = absurd made
 answered_so Edit Missed cells Below edit nearly made = absurd made
 answered_so Edit Missed cells (Page page) edit nearly made = record { cells = cells; edit = edit; nearly = nearly; made = made }
 answered_so Edit Missed cells (Two left key birth right) edit nearly made = record { cells = cells; edit = edit; nearly = nearly; made = made }
 
-pub answered : (Edit : List Entry → Type 0) (Missed : Type 0) (cells : List Entry) (result : Result Edited NoMemory) → Edit cells → IsNearly 0 cells → IfOk result (λ edited. IsMadeOf 0 cells edited)
-    → IfOk result (λ edited. Answers Edit Missed edited)
-answered Edit Missed cells (Ok edited) edit nearly made = answered_so Edit Missed cells edited edit nearly made
-answered Edit Missed cells (Err fault) edit nearly made = tt
+pub answered_at : (Edit : List Entry → Type 0) (Missed : Type 0) (content : Content) (cells : List Entry) (edited : Edited) → content.level ≡ 0 → Edit cells → IsNearly content.level cells → IsMadeOf content.level cells edited → Answers Edit Missed edited
+answered_at Edit Missed content cells edited leaf edit nearly made =
+    answered_so Edit Missed cells edited edit (subst (λ (n : ℕ). IsNearly n cells) leaf nearly) (subst (λ (n : ℕ). IsMadeOf n cells edited) leaf made)
+
+pub answered : (Edit : List Entry → Type 0) (Missed : Type 0) (content : Content) (cells : List Entry) (result : Result Edited NoMemory) → content.level ≡ 0 → Edit cells → IsNearly content.level cells
+    → IfOk result (λ edited. IsMadeOf content.level cells edited) → IfOk result (λ edited. Answers Edit Missed edited)
+answered Edit Missed content cells (Ok edited) leaf edit nearly made = answered_at Edit Missed content cells edited leaf edit nearly made
+answered Edit Missed content cells (Err fault) leaf edit nearly made = tt
+
+pub removed_answer : (pair : Bound) (content : Content) (at past : ℕ) (page : List ℕ) → content.level ≡ 0 → IsPage content
+    → BeginsAt AtOrAfter pair content.cells at → BeginsAt After pair content.cells past → at ≢ past → Spells (record { level = content.level; cells = remove content.cells at }) page
+    → Answers (RemovesCell pair content.cells) (IsMissing pair content.cells) (Page page)
+removed_answer pair content at past page leaf rules h k isnt made =
+    let done = removed_leaf pair content at past leaf rules h k isnt in
+    answered_at (RemovesCell pair content.cells) (IsMissing pair content.cells) content (remove content.cells at) (Page page) leaf done.0
+    (near content (remove content.cells at) leaf (subst (λ (n : ℕ). IsPage (record { level = n; cells = remove content.cells at })) leaf done.1).cells (omega (arith, done.0.small))) made
 
 -- a child more in an inner page
-pub grafted : (content : Content) (xs ys zs : List Cell) (x : Cell) (at here past : ℕ) (bound : Bound) (child : Slot) → 0 < content.level → 0 < at → IsPage content → map entry_of xs ≡ content.cells
+pub grafted : (content : Content) (x : Entry) (at here past : ℕ) (bound : Bound) (child : Slot) → 0 < content.level → 0 < at → IsPage content
     → BeginsAt AtOrAfter bound content.cells here → BeginsAt After bound content.cells past → here ≡ at → past ≡ at
-    → entry_of x ≡ inner_entry bound.key bound.birth child → Fits false (inner_entry bound.key bound.birth child)
-    → ys ≡ insert xs at x → zs ≡ ys
-    → (map entry_of zs ≡ insert content.cells at (inner_entry bound.key bound.birth child)) × IsNearly content.level (map entry_of zs)
-grafted content xs ys zs x at here past bound child up behind rules all h k is_here is_past is fits put same =
+    → x ≡ inner_entry bound.key bound.birth child → Fits false (inner_entry bound.key bound.birth child)
+    → (with_one content.cells at at x ≡ insert content.cells at (inner_entry bound.key bound.birth child)) × IsNearly content.level (with_one content.cells at at x)
+grafted content x at here past bound child up behind rules h k is_here is_past is fits =
     let e = inner_entry bound.key bound.birth child in
-    let left : map entry_of zs ≡ insert content.cells at e = inserted_all xs ys zs at x content.cells e all is put same in
+    let left : with_one content.cells at at x ≡ insert content.cells at e = ap (λ (y : Entry). insert content.cells at y) is in
     let inner : (content.level == 0) ≡ false = not_leaf content.level up in
     let cells : AreCells false None content.cells = subst (λ (t : Bool). AreCells t None content.cells) inner rules.cells in
     let low : BeginsAt AtOrAfter bound content.cells at = subst (λ (n : ℕ). BeginsAt AtOrAfter bound content.cells n) is_here h in

@@ -1,7 +1,6 @@
 -- States of a transaction one after the other, and the child that an edit meets in them.
 use Rattle.std.proofs.Common.{◌≡◌, ◌≢◌, ⊎_elim, ℕ, zero, suc, ◌-◌, ◌<◌, false, List, [], ◌∷◌, ◌++◌, map, length, Option, Some, None, IsSome, unwrap_or, refl, sym, ap, subst, ◌∙◌, arith}
 use Rattle.std.specs.Prelude.{slice_get}
-use Rattle.std.proofs.lemmas.Bool.{cases_lt}
 use Rattle.std.proofs.lemmas.List.{length-map}
 use Rattle.pair_types.specs.declared.slot.Slot.{Slot}
 use Rattle.pair_types.specs.declared.quad.Quad.{Quad}
@@ -16,7 +15,7 @@ use Rattle.btree_search.specs.Find.{BeginsAt}
 use Rattle.btree_search.specs.Found.{OnlyReads}
 use Rattle.btree_search.specs.Walk.{InStores, IsShown, LeadsAt}
 use Rattle.btree_search.proofs.Ranges.{children_rise}
-use Rattle.btree_search.proofs.Walks.{agrees_before, page_there, some_of}
+use Rattle.btree_search.proofs.Walks.{one_child, agrees_before, page_there, some_of}
 use Rattle.btree_edit.specs.Edited.{GoesOn}
 use Rattle.btree_edit.specs.Below.{Bears, BearsKids, IsMet}
 use Rattle.btree_edit.proofs.Opened.{Seated, opened, slot_cases}
@@ -92,18 +91,6 @@ reads_latest a b z slot page h later within =
     ∙ (ap (λ (w : PageMap). latest w b.reads slot) h.writes
     ∙ ap (λ (r : Option (Option (List ℕ))). page_of (laid (a.writes slot) (unwrap_or r None))) (sym (same_read b.reads z.reads slot later (h.learns within).known)))
 
--- the empty text is no page
-pub no_page : (content : Content) (bytes : List ℕ) → Spells content bytes → bytes ≡ [] → ⊥
-no_page content bytes h is = no_cons _ _ (h.text ∙ is)
-  where
-    no_cons : (x : ℕ) (xs : List ℕ) → x ∷ xs ≡ [] → ⊥
-    no_cons x xs e = cc
-
--- a page that is read so lies in a store
-pub shown_within : (a b : PageState) (slot : Slot) (page : List ℕ) (least most : ℕ) (content : Content) → Reads a b slot page → IsShown least most page content → slot.store < a.stores
-shown_within a b slot page least most content reads shown =
-    ⊎_elim (λ lt. lt) (λ le. absurd (no_page content page shown.spelled (reads.beyond le).0)) (cases_lt slot.store a.stores)
-
 -- ---- the child that an edit meets
 
 -- a child, by its slot, is one by its cell
@@ -114,13 +101,6 @@ leads_of zero rest first key birth child h =
 leads_of (suc i) [] first key birth child h = absurd cc
 leads_of (suc i) (next ∷ rest) first key birth child h =
     let more = leads_of i rest next.slot next.bound.key next.bound.birth child h in record { cell = more.cell; there = more.there; leads = more.leads }
-
-one_child : (cells : List Entry) (i : ℕ) (a b : Slot) → LeadsAt cells i a → LeadsAt cells i b → a ≡ b
-one_child cells i a b h k =
-    let some : Some h.cell ≡ Some k.cell = sym h.there ∙ k.there in
-    let cell : h.cell ≡ k.cell = cc in
-    let leads : Leads a ≡ Leads b = sym h.leads ∙ (ap (λ (e : Entry). e.body) cell ∙ k.leads) in
-    cc
 
 pub record Sought (p : PageMap) (level : ℕ) (pair : Bound) (i : ℕ) (cells : List Entry) (low : Bound) (high : Option Bound) (quads : List Quad) (slots : List Slot) : Type 0 where
   pub first : Slot

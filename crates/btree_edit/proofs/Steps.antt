@@ -1,9 +1,9 @@
 -- What each step of an edit makes of its answer.
-use Rattle.std.proofs.Common.{◌≡◌, ◌≢◌, ◌⊎◌, unwrap_or, ⊎_elim, inl, inr, ℕ, zero, suc, ◌-◌, ◌+◌, ◌<◌, ◌≤◌, true, List, [], ◌∷◌, ◌++◌, map, length, take, drop, get_or, set, Option, Some, None, IsSome, Ok, Err, Result, refl, sym, ap, subst, ◌∙◌, arith, append_assoc}
+use Rattle.std.proofs.Common.{◌≡◌, ◌≢◌, ◌⊎◌, unwrap_or, ⊎_elim, inl, inr, ℕ, zero, suc, ◌-◌, ◌+◌, ◌<◌, ◌≤◌, true, List, [], ◌∷◌, ◌++◌, map, length, take, drop, set, Option, Some, None, IsSome, Ok, Err, Result, refl, sym, ap, subst, ◌∙◌, arith, append_assoc}
 use Rattle.std.specs.Prelude.{All, slice_get}
-use Rattle.std.specs.List.{remove, insert, flat_map}
-use Rattle.std.proofs.lemmas.Bool.{cases_lt, cases_eq}
-use Rattle.std.proofs.lemmas.List.{length-append, length-set, map-set, set_split, take-append-drop}
+use Rattle.std.specs.List.{remove, insert}
+use Rattle.std.proofs.lemmas.Bool.{cases_lt}
+use Rattle.std.proofs.lemmas.List.{length-set, map-set, set_split, take-append-drop}
 use Rattle.std.proofs.lemmas.List.Elements.{All-nil, All-cons, All-append}
 use Rattle.std.proofs.lemmas.List.Edits.{length-remove, length-insert}
 use Rattle.pair_types.specs.declared.slot.Slot.{Slot}
@@ -13,7 +13,7 @@ use Rattle.pair_types.specs.declared.fault.PairFault.{PairFault}
 use Rattle.pair_types.specs.declared.fault.PairFault.TheVariants.{Odd, HeightFull, Page as PageGave}
 use Rattle.pair_types.specs.PageMaps.{PageMap, laid, over, latest, page_of}
 use Rattle.pair_types.specs.PageState.{PageState, Reads, Writes, GivesUp, no_memory}
-use Rattle.btree_page.specs.Content.{Bound, IsBelow, Entry, Content, Spells, AreCells, inner_entry, bound_of, entry_spelling}
+use Rattle.btree_page.specs.Content.{Bound, IsBelow, Body, Carries, Leads, FitsBody, Entry, Content, Spells, AreCells, inner_entry, bound_of}
 use Rattle.btree_page.specs.Tree.{IsIn, AllIn, Among, quad_bound, quad_cell, child_cell}
 use Rattle.btree_page.proofs.Trees.{has_one_content}
 use Rattle.btree_page.proofs.Built.{leaf_size}
@@ -21,7 +21,9 @@ use Rattle.btree_search.specs.declared.aim.Aim.TheVariants.{After}
 use Rattle.btree_search.specs.Find.{BeginsAt}
 use Rattle.btree_search.specs.Found.{OnlyReads, HasCause}
 use Rattle.btree_search.specs.Walk.{InStores, IsShown, LeadsAt, HasNoChild}
+use Rattle.btree_search.specs.Way.{EndsAt, Goes}
 use Rattle.btree_search.proofs.Order.{cells_rise}
+use Rattle.btree_search.proofs.Ways.{step, shown_within}
 use Rattle.btree_search.proofs.Parts.{not_both}
 use Rattle.btree_search.proofs.Walks.{odd_cause, cause_later, agrees_before}
 use Rattle.btree_edit.specs.declared.change.Change.{Change}
@@ -32,13 +34,13 @@ use Rattle.btree_edit.specs.Edits.{bound_at, Nothing, Lacks, Removes, Ends, Repl
 use Rattle.btree_edit.specs.Edited.{Room, room_in, GoesOn}
 use Rattle.btree_edit.specs.Made.{size, IsNearly, IsSplit}
 use Rattle.btree_edit.specs.Changes.{ended, pair_of, edit_of, given_of, open_of, Answers, cells_edit, misses_of, refusal_of, EditsLeaf}
-use Rattle.btree_edit.specs.Below.{Bears, BearsRecords, IsMet, Changed, ChangesTo, LacksBelow, IsNotMet, StaysFrom, Grows, IsEdited, EditsBelow}
-use Rattle.btree_edit.proofs.Lists.{at_place, map_remove, there}
+use Rattle.btree_edit.specs.Below.{Bears, BearsRecords, IsMet, Changed, ChangesTo, LacksBelow, IsNotMet, StaysFrom, Grows, Finds, FindsBelow, IsEdited, EditsBelow}
+use Rattle.btree_edit.proofs.Lists.{at_place, map_remove}
 use Rattle.btree_edit.proofs.Opened.{slot_cases}
-use Rattle.btree_edit.proofs.Placed.{leaf_rules, size_swap}
+use Rattle.btree_edit.proofs.Placed.{size_swap, fits_there}
 use Rattle.btree_edit.proofs.Divided.{divided}
 use Rattle.btree_edit.proofs.Rebuilt.{IsLocal, not_open, rebuilt, changed_before}
-use Rattle.btree_edit.proofs.States.{goes_same, goes_only, goes_then, goes_write, goes_gives_up, over_put, in_stores_put, reads_latest, shown_within, sought, child_read, MetChild, IsPartial, met_child}
+use Rattle.btree_edit.proofs.States.{goes_same, goes_only, goes_then, goes_write, goes_gives_up, over_put, in_stores_put, reads_latest, sought, child_read, MetChild, IsPartial, met_child}
 
 -- ---- a leaf
 
@@ -160,24 +162,24 @@ leaf_few (Insert q) a content cells h = inr (tt, omega (arith, ap (λ (es : List
 few_more : (change : Change) (a : PageState) (content : Content) (cells : List Entry) → cells_edit change content.cells cells → length cells ≤ length content.cells + 1
 few_more change a content cells h = ⊎_elim (λ le. omega arith) (λ more. more.1) (leaf_few change a content cells h)
 
--- no other record stands at the place of one
-only_there : (quads : List Quad) (at : ℕ) (g : Quad) (pair : Bound) (k : ℕ) (d : Quad) → AreCells true None (map quad_cell quads) → slice_get quads at ≡ Some g → quad_bound g ≡ pair
-    → k < length quads → quad_bound (get_or quads k d) ≡ pair → get_or quads k d ≡ g
-only_there quads at g pair k d rules at_g is lt same =
-    let r = get_or quads k d in
-    let at_r : slice_get quads k ≡ Some r = there quads k d lt in
-    ⊎_elim
-    (λ e.
-    let here : slice_get quads at ≡ Some r = subst (λ (n : ℕ). slice_get quads n ≡ Some r) e at_r in cc)
-    (λ apart. absurd (⊎_elim
-    (λ less. equal_below (quad_bound r) (quad_bound g) (same ∙ sym is) (cells_rise true None (map quad_cell quads) k at (quad_cell r) (quad_cell g) rules less (mapped_there quads k r at_r) (mapped_there quads at g at_g)))
-    (λ more. equal_below (quad_bound g) (quad_bound r) (is ∙ sym same) (cells_rise true None (map quad_cell quads) at k (quad_cell g) (quad_cell r) rules (omega arith) (mapped_there quads at g at_g) (mapped_there quads k r at_r)))
-    (cases_lt k at)))
-    (cases_eq k at)
-  where
-    equal_below : (x y : Bound) → x ≡ y → IsBelow x y → ⊥
-    equal_below x y e below =
-        let itself : IsBelow y y = subst (λ (z : Bound). IsBelow z y) e below in not_both y y itself itself
+equal_below : (x y : Bound) → x ≡ y → IsBelow x y → ⊥
+equal_below x y e below =
+    let itself : IsBelow y y = subst (λ (z : Bound). IsBelow z y) e below in not_both y y itself itself
+
+-- the cells of a leaf stand at one place each
+one_place : (cells : List Entry) (i j : ℕ) (a b : Entry) → AreCells true None cells → slice_get cells i ≡ Some a → slice_get cells j ≡ Some b → bound_of a ≡ bound_of b → i ≡ j
+one_place cells i j a b rules at_i at_j same = ⊎_elim
+    (λ less. absurd (equal_below (bound_of a) (bound_of b) same (cells_rise true None cells i j a b rules less at_i at_j)))
+    (λ le. ⊎_elim
+    (λ more. absurd (equal_below (bound_of b) (bound_of a) (sym same) (cells_rise true None cells j i b a rules more at_j at_i)))
+    (λ ge. omega arith)
+    (cases_lt j i))
+    (cases_lt i j)
+
+-- a cell of a leaf is that of a record
+carried : (key : List ℕ) (birth : ℕ) (body : Body) → FitsBody true body → (q : Quad) × (quad_cell q ≡ record { key = key; birth = birth; body = body })
+carried key birth (Carries death value) fits = (record { key = key; birth = birth; death = death; value = value }, refl)
+carried key birth (Leads child) fits = absurd fits
 
 memory_cause : (a : PageState) (P : Type 0) (fault : PairFault) → fault ≡ PageGave no_memory → HasCause a a P fault
 memory_cause a P fault is = subst (λ (f : PairFault). HasCause a a P f) (sym is) (λ isnt. absurd (isnt refl))
@@ -187,16 +189,27 @@ leaf_grows : (change : Change) (a : PageState) (content : Content) (cells : List
 leaf_grows (Remove key birth) a content cells leaf h full = absurd (omega (arith, h.small))
 leaf_grows (End key birth death) a content cells leaf h full = absurd (omega (arith, h.small))
 leaf_grows (Insert q) a content cells leaf h full = tt
-leaf_grows (Replace q) a content cells leaf h full = λ under low high quads below met.
-    let r = records_of Nothing (quad_bound q.now) a content under low high quads below leaf met in
-    let x = place_of content quads low high below (quad_bound q.now) h.at r h.within h.place in
-    let at_gone : slice_get content.cells h.at ≡ Some (quad_cell x.0) = subst (λ (es : List Entry). slice_get es h.at ≡ Some (quad_cell x.0)) (sym r.records) (mapped_there quads h.at x.0 x.1) in
-    let page = leaf_rules content leaf met.rules in
-    let same_key : length x.0.key ≡ length q.now.key = ap (λ (b : Bound). length b.key) x.3 in
-    let longer : length x.0.value < length q.now.value =
-    omega (arith, page.1, ap size h.now, size_swap content.cells h.at (quad_cell x.0) (quad_cell q.now) at_gone, leaf_size x.0.key x.0.birth x.0.death x.0.value, leaf_size q.now.key q.now.birth q.now.death q.now.value) in
-    λ k d lt same. subst (λ (r : Quad). length r.value < length q.now.value)
-    (sym (only_there quads h.at x.0 (quad_bound q.now) k d (subst (λ (es : List Entry). AreCells true None es) r.records page.0) x.1 x.3 lt same)) longer
+leaf_grows (Replace q) a content cells leaf h full = λ under agrees gone goes.
+    let e : EndsAt (quad_bound q.now) content.cells gone = subst (λ (n : ℕ). Goes (over a.writes under) (quad_bound q.now) n content.cells gone) leaf goes in
+    let x = at_place content.cells h.at h.within in
+    let at : e.at ≡ h.at = one_place content.cells e.at h.at (quad_cell gone) x.0 h.rules e.there x.1 (e.place ∙ sym (h.place x.0 x.1)) in
+    let there : slice_get content.cells h.at ≡ Some (quad_cell gone) = subst (λ (n : ℕ). slice_get content.cells n ≡ Some (quad_cell gone)) at e.there in
+    let same_key : length gone.key ≡ length q.now.key = ap (λ (b : Bound). length b.key) e.place in
+    omega (arith, h.fitted, ap size h.now, size_swap content.cells h.at (quad_cell gone) (quad_cell q.now) there, leaf_size gone.key gone.birth gone.death gone.value, leaf_size q.now.key q.now.birth q.now.death q.now.value)
+
+leaf_finds : (change : Change) (a : PageState) (content : Content) (cells : List Entry) → content.level ≡ 0 → cells_edit change content.cells cells → Finds change a a content
+leaf_finds (Remove key birth) a content cells leaf h = tt
+leaf_finds (End key birth death) a content cells leaf h = tt
+leaf_finds (Insert q) a content cells leaf h = tt
+leaf_finds (Replace q) a content cells leaf h =
+    let x = at_place content.cells h.at h.within in
+    let gone = carried x.0.key x.0.birth x.0.body (fits_there None content.cells h.at x.0 h.rules x.1).body in
+    let ends : EndsAt (quad_bound q.now) content.cells gone.0 = record {
+      place = ap (λ (e : Entry). bound_of e) gone.1 ∙ h.place x.0 x.1;
+      at = h.at;
+      there = x.1 ∙ ap (λ (e : Entry). Some e) (sym gone.1);
+    } in
+    record { gone = gone.0; goes = λ under agrees. subst (λ (n : ℕ). Goes (over a.writes under) (quad_bound q.now) n content.cells gone.0) (sym leaf) ends }
 
 -- ---- the answer at a leaf
 
@@ -245,10 +258,17 @@ leaf_fault (Insert q) store a content Odd leaf h = λ under low high quads below
 leaf_fault (Insert q) store a content HeightFull leaf h = absurd h
 leaf_fault (Insert q) store a content (PageGave fault) leaf h = λ isnt. absurd (isnt h)
 
+leaf_found : (change : Change) (a : PageState) (content : Content) (edited : Edited) → content.level ≡ 0
+    → Answers (cells_edit change content.cells) (misses_of change content.cells) edited → FindsBelow change a a content (Ok edited)
+leaf_found change a content Missing leaf h = tt
+leaf_found change a content Below leaf h = absurd h
+leaf_found change a content (Page page) leaf h = leaf_finds change a content h.cells leaf h.edit
+leaf_found change a content (Two left key birth right) leaf h = leaf_finds change a content h.cells leaf h.edit
+
 pub leaf_edited : (change : Change) (store : ℕ) (a : PageState) (content : Content) (result : Result Edited PairFault) → content.level ≡ 0 → EditsLeaf change content.cells result
     → EditsBelow change store a a content result
-leaf_edited change store a content (Ok edited) leaf h = record { goes_on = goes_same a; answer = leaf_ok change store a content edited leaf h }
-leaf_edited change store a content (Err fault) leaf h = record { goes_on = goes_same a; answer = leaf_fault change store a content fault leaf h }
+leaf_edited change store a content (Ok edited) leaf h = record { goes_on = goes_same a; answer = leaf_ok change store a content edited leaf h; finds = leaf_found change a content edited leaf h }
+leaf_edited change store a content (Err fault) leaf h = record { goes_on = goes_same a; answer = leaf_fault change store a content fault leaf h; finds = tt }
 
 -- ---- an inner page
 
@@ -264,6 +284,7 @@ no_child change store a content past i fault inner begins at is none = record {
   answer = odd_cause a a (IsNotMet (given_of change) (pair_of change) a a content) fault is (λ under low high quads below met.
       let s = sought (given_of change) (pair_of change) a a content under low high quads below (content.level - 1) past i met (level_above _ inner) begins at in
       none s.seat.child s.leads);
+  finds = tt;
 }
 
 -- the child's page is no page of the level
@@ -278,6 +299,7 @@ no_page change store a b content past i slot page fault inner begins at leads re
       let read = child_read (given_of change) (pair_of change) a b b content under low high quads below (content.level - 1) i slot page met s leads reads (goes_same b) in
       none (record { level = content.level - 1; cells = s.inner.cells })
       (record { spelled = subst (λ (xs : List ℕ). Spells (record { level = content.level - 1; cells = s.inner.cells }) xs) (sym read.1) s.inner.page.spelled; from = omega arith; to = omega arith }));
+  finds = tt;
 }
 
 -- what stays from a level of the child on stays from one of its parent on
@@ -405,7 +427,34 @@ missing_below change store a b c content below past i slot page inner begins at 
         subst (λ (qs : List Quad). Lacks (pair_of change) qs) (sym s.all_quads)
         (All-append (λ r. quad_bound r ≢ pair_of change) s.before (s.here ++ s.after) s.lacks_before (All-append (λ r. quad_bound r ≢ pair_of change) s.here s.after here s.lacks_after)),
   );
+  finds = tt;
 }
+
+-- what was found below the child was found below the page
+pub finds_up : (change : Change) (a b c d : PageState) (content below : Content) (past i : ℕ) (slot : Slot) (page : List ℕ)
+    → content.level ≢ 0 → BeginsAt After (pair_of change) content.cells past → i ≡ past - 1 → LeadsAt content.cells i slot → Reads a b slot page → GoesOn b c → GoesOn c d
+    → IsShown (content.level - 1) (content.level - 1) page below → Finds change b c below → Finds change a d content
+finds_up (Remove key birth) a b c d content below past i slot page inner begins at leads reads goes later shown h = tt
+finds_up (End key birth death) a b c d content below past i slot page inner begins at leads reads goes later shown h = tt
+finds_up (Insert q) a b c d content below past i slot page inner begins at leads reads goes later shown h = tt
+finds_up (Replace q) a b c d content below past i slot page inner begins at leads reads goes later shown h =
+    let s = step a b d.reads (quad_bound q.now) content below past i slot page inner begins at leads reads (goes_then b c d goes later).extends shown in
+    record {
+      gone = h.gone;
+      goes = λ under agrees. subst (λ (w : PageMap). Goes (over w under) (quad_bound q.now) content.level content.cells h.gone) reads.writes
+          (s.up under agrees h.gone (h.goes under (agrees_before c.reads d.reads under later.extends agrees)));
+    }
+
+pub grows_up : (change : Change) (a b c d : PageState) (content below : Content) (past i : ℕ) (slot : Slot) (page : List ℕ)
+    → content.level ≢ 0 → BeginsAt After (pair_of change) content.cells past → i ≡ past - 1 → LeadsAt content.cells i slot → Reads a b slot page → GoesOn b c → GoesOn c d
+    → IsShown (content.level - 1) (content.level - 1) page below → Grows change b c below → Grows change a d content
+grows_up (Remove key birth) a b c d content below past i slot page inner begins at leads reads goes later shown h = h
+grows_up (End key birth death) a b c d content below past i slot page inner begins at leads reads goes later shown h = h
+grows_up (Insert q) a b c d content below past i slot page inner begins at leads reads goes later shown h = tt
+grows_up (Replace q) a b c d content below past i slot page inner begins at leads reads goes later shown h = λ under agrees gone way.
+    let s = step a b d.reads (quad_bound q.now) content below past i slot page inner begins at leads reads (goes_then b c d goes later).extends shown in
+    h under (agrees_before c.reads d.reads under later.extends agrees) gone
+    (s.down under agrees gone (subst (λ (w : PageMap). Goes (over w under) (quad_bound q.now) content.level content.cells gone) (sym reads.writes) way))
 
 -- something below the child changed
 pub changed_below : (change : Change) (store : ℕ) (a b c : PageState) (content below : Content) (past i : ℕ) (slot : Slot) (page : List ℕ)
@@ -427,6 +476,7 @@ changed_below change store a b c content below past i slot page inner begins at 
         parent_changed (edit_of change) (local_of change) (given_of change) (room_in (open_of change store) a) (pair_of change) a b c content below under low high quads slots (content.level - 1) i slot page m (level_above _ inner) reads.writes
         c.stores (over c.writes under) (over c.writes under) below.cells page changed (changed.frame.others s.seat.child s.inner.apart away ∙ before) shown.spelled (λ t apart. refl) changed.in_stores,
   );
+  finds = finds_up change a b c c content below past i slot page inner begins at leads reads h.goes_on (goes_same c) shown h.finds;
 }
 
 -- the child's page was edited and written
@@ -465,6 +515,7 @@ written_below change store a b c d content below past i slot page page' inner be
             c.stores (over c.writes under) (over d.writes under) h.answer.1.cells page' changed (ap (λ (t : Slot). over d.writes under t) m.is_child ∙ put.put) h.answer.1.spelled others stored in
             subst (λ (n : ℕ). Changed (edit_of change) (room_in (open_of change store) a) n (over a.writes under) (over d.writes under) content.level content.cells low high quads slots) (sym writes.lasts.stores) result,
       );
+      finds = finds_up change a b c d content below past i slot page inner begins at leads reads h.goes_on (goes_write c d slot page' writes) shown h.finds;
     }
 
 -- the child's page could not be written
@@ -476,6 +527,7 @@ unwritten_below change store a b c d content below edited fault only h gives =
     record {
       goes_on = goes_then a c d first (goes_gives_up c d fault gives);
       answer = λ isnt. omega (arith, first.lasts.faults fault, gives.counted isnt);
+      finds = tt;
     }
 
 -- the edit below the child gave up
@@ -490,4 +542,5 @@ fault_below change store a b c content below past i slot page fault inner begins
       let m = met_child (given_of change) (partial_of change) (pair_of change) a b c content below under low high quads slots (content.level - 1) past i slot page met (level_above _ inner) begins at leads reads h.goes_on shown in
       none under m.sought.seat.from m.sought.seat.to m.sought.seat.here m.sought.inner.below m.met)
       h.answer;
+  finds = tt;
 }

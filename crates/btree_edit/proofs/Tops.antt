@@ -1,5 +1,5 @@
 -- From the root page to the tree: what an edit below the root is of every tree.
-use Rattle.std.proofs.Common.{◌≡◌, ◌≢◌, ◌⊎◌, ⊎_elim, inl, inr, ℕ, suc, ◌+◌, ◌<◌, ◌≤◌, Bool, true, false, List, [], ◌∷◌, ◌++◌, length, Option, Some, None, IsSome, unwrap_or, Ok, Err, Result, refl, sym, ap, subst, ◌∙◌, arith, add-one, get_or}
+use Rattle.std.proofs.Common.{◌≡◌, ◌≢◌, ◌⊎◌, ⊎_elim, inl, inr, ℕ, zero, suc, ◌+◌, ◌<◌, ◌≤◌, Bool, true, false, List, [], ◌∷◌, ◌++◌, Option, Some, None, IsSome, unwrap_or, Ok, Err, Result, refl, sym, ap, subst, ◌∙◌, arith, add-one}
 use Rattle.std.specs.Prelude.{IfOk, IfErr}
 use Rattle.pair_types.specs.declared.slot.Slot.{Slot}
 use Rattle.pair_types.specs.declared.quad.Quad.{Quad}
@@ -9,24 +9,26 @@ use Rattle.pair_types.specs.declared.fault.PairFault.TheVariants.{Odd, HeightFul
 use Rattle.pair_types.specs.PageMaps.{PageMap, Agrees, Extends, laid, over, latest, page_of}
 use Rattle.pair_types.specs.PageState.{PageState, IsSound, Reads, Writes, Freshens, GivesUp}
 use Rattle.btree_page.specs.Content.{Bound, Entry, Content, Spells, inner_entry}
-use Rattle.btree_page.specs.Tree.{Among, Child, Kids, Subtree, quad_bound, root, least, IsFormed}
+use Rattle.btree_page.specs.Tree.{Holds, Among, Child, Kids, Subtree, quad_bound, root, least, IsFormed}
 use Rattle.btree_page.proofs.Trees.{among_left, among_right, among_either, has_one_content}
 use Rattle.btree_search.specs.Found.{OnlyReads, HasCause}
 use Rattle.btree_search.specs.Walk.{InStores, IsShown}
-use Rattle.btree_search.proofs.Walks.{odd_cause, cause_later, agrees_before, page_there, some_of}
+use Rattle.btree_search.specs.Way.{Goes, Meets}
+use Rattle.btree_search.proofs.Ways.{shown_within, page_held}
+use Rattle.btree_search.proofs.Walks.{odd_cause, cause_later, agrees_before, page_there, some_of, same_content}
 use Rattle.btree_edit.specs.declared.change.Change.{Change}
 use Rattle.btree_edit.specs.declared.change.Change.TheVariants.{Remove, End, Replace, Insert}
 use Rattle.btree_edit.specs.declared.outcome.Edited.TheVariants.{Missing, Below, Page, Two}
-use Rattle.btree_edit.specs.Edits.{bound_at, Nothing, Replaces, IsLonger, IsNoLonger}
+use Rattle.btree_edit.specs.Edits.{bound_at, Nothing}
 use Rattle.btree_edit.specs.Edited.{Room, room_in, IsOpen, EditsTree, EditsIn, HadNoTree, GoesOn, RootStays, RootGrows, IsFull, HasPutCause}
 use Rattle.btree_edit.specs.Changes.{pair_of, edit_of, given_of, open_of}
-use Rattle.btree_edit.specs.Below.{Bears, IsMet, Changed, IsNotMet, Grows, Divides, Parted, EditsBelow, PutsTwo}
-use Rattle.btree_edit.specs.Roots.{Raises, FailsSo, TreeGrows, NeverGrows, MissesIn, PutsIn}
+use Rattle.btree_edit.specs.Below.{Bears, IsMet, Changed, IsNotMet, Grows, Finds, Divides, Parted, EditsBelow, PutsTwo}
+use Rattle.btree_edit.specs.Roots.{Raises, FailsSo, TreeGrows, TreeMet, TreeStays, NeverGrows, MissesIn, PutsIn}
 use Rattle.btree_edit.proofs.Least.{all_in}
 use Rattle.btree_edit.proofs.Opened.{Seated, opened, closed, bears_keep, some_not_none, slot_cases}
 use Rattle.btree_edit.proofs.Rebuilt.{not_open, some_held, reclosed, unread_before, changed_before, parted_before}
 use Rattle.btree_edit.proofs.Grafts.{bears_present, unwritten_before, open_free}
-use Rattle.btree_edit.proofs.States.{extends_learns, goes_only, goes_then, goes_write, goes_gives_up, over_put, in_stores_put, reads_latest, shown_within}
+use Rattle.btree_edit.proofs.States.{extends_learns, goes_only, goes_then, goes_write, goes_gives_up, over_put, in_stores_put, reads_latest}
 
 -- the edit meets the root
 pub record MetRoot (Given : List Quad → Type 0) (pair : Bound) (a b z : PageState) (content : Content) (under : PageMap) (quads : List Quad) (slots : List Slot) (page : List ℕ) : Type 0 where
@@ -176,9 +178,44 @@ tree_grows : (change : Change) (store : ℕ) (a b c d : PageState) (content : Co
 tree_grows (Remove key birth) store a b c d content page r h goes grows = grows
 tree_grows (End key birth death) store a b c d content page r h goes grows = grows
 tree_grows (Insert q) store a b c d content page r h goes grows = tt
-tree_grows (Replace q) store a b c d content page r h goes grows = λ under agrees quads slots formed.
-    let m = met_root Nothing (quad_bound q.now) a b c content under quads slots page r.reads r.shown h (agrees_before c.reads d.reads under goes.extends agrees) (formed_before a c d under quads slots goes formed) tt in
-    grows under least None quads m.inner.below m.met
+tree_grows (Replace q) store a b c d content page r h goes grows = λ under agrees gone meets.
+    let agrees_c = agrees_before c.reads d.reads under goes.extends agrees in
+    let held = page_held a b root page 0 64 content under r.reads r.shown (agrees_before b.reads c.reads under h.extends agrees_c) in
+    let there : Holds (over a.writes under) root content = subst (λ (w : PageMap). Holds (over w under) root content) r.reads.writes held in
+    let one : meets.top ≡ content = same_content (over a.writes under) root meets.top content meets.held there in
+    grows under agrees_c gone
+    (subst (λ (w : PageMap). Goes (over w under) (quad_bound q.now) content.level content.cells gone) (sym r.reads.writes)
+    (subst (λ (t : Content). Goes (over a.writes under) (quad_bound q.now) t.level t.cells gone) one meets.goes))
+
+-- what was read, and nothing else
+pub known : PageState → PageMap
+known d s = unwrap_or (d.reads s) None
+
+pub known_agrees : (d : PageState) → Agrees d.reads (known d)
+unfolding known
+known_agrees d = record { at = λ s held is. ap (λ (r : Option (Option (List ℕ))). unwrap_or r None) is }
+
+goes_place : (p : PageMap) (pair : Bound) (level : ℕ) (cells : List Entry) (q : Quad) → Goes p pair level cells q → quad_bound q ≡ pair
+goes_place p pair zero cells q h = h.place
+goes_place p pair (suc level) cells q h = goes_place p pair level h.below q h.goes
+
+-- what was found below the root was found in the tree
+pub tree_finds : (change : Change) (a b c d : PageState) (content : Content) (page : List ℕ) → WasRead a b content page → GoesOn b c → GoesOn c d → Finds change b c content → TreeMet change a d
+tree_finds (Remove key birth) a b c d content page r h goes finds = tt
+tree_finds (End key birth death) a b c d content page r h goes finds = tt
+tree_finds (Insert q) a b c d content page r h goes finds = tt
+tree_finds (Replace q) a b c d content page r h goes finds =
+    let pair = quad_bound q.now in
+    let meets : (under : PageMap) → Agrees d.reads under → Meets (over a.writes under) pair finds.gone = λ under agrees.
+    let agrees_c = agrees_before c.reads d.reads under goes.extends agrees in
+    let held = page_held a b root page 0 64 content under r.reads r.shown (agrees_before b.reads c.reads under h.extends agrees_c) in
+    record {
+      top = content;
+      held = subst (λ (w : PageMap). Holds (over w under) root content) r.reads.writes held;
+      goes = subst (λ (w : PageMap). Goes (over w under) pair content.level content.cells finds.gone) r.reads.writes (finds.goes under agrees_c);
+    } in
+    let m = meets (known d) (known_agrees d) in
+    record { gone = finds.gone; place = goes_place (over a.writes (known d)) pair m.top.level m.top.cells finds.gone m.goes; meets = meets }
 
 -- ---- the root page
 
@@ -478,34 +515,17 @@ pub put_any : (change : Change) (store : ℕ) (a b : PageState) (found : Bool) �
 put_any change store a b true h = inl (h.answer.0, moved_grows a b (TreeGrows change a b) h.answer.1)
 put_any change store a b false h = inr h.answer.0
 
--- a value that is no longer is not longer
-not_both_long : (q : Quad) (quads after : List Quad) → Replaces q quads after → IsLonger q quads → IsNoLonger q quads → ⊥
-not_both_long q quads after h longer no_longer =
-    let there = among h.below h.above h.gone quads h.was in
-    omega (
-      arith,
-      longer there.0 h.gone there.1 (ap (λ (r : Quad). quad_bound r) there.2 ∙ h.place),
-      no_longer there.0 h.gone there.1 (ap (λ (r : Quad). quad_bound r) there.2 ∙ h.place),
-      ap (λ (r : Quad). length r.value) there.2,
-    )
-  where
-    inside : (below above : List Quad) (g : Quad) → (k : ℕ) × (k < length (below ++ (g ∷ above))) × (get_or (below ++ (g ∷ above)) k g ≡ g)
-    inside [] above g = (0, omega arith, refl)
-    inside (r ∷ below) above g = let more = inside below above g in (suc more.0, omega (arith, more.1), more.2)
-
-    among : (below above : List Quad) (g : Quad) (quads : List Quad) → quads ≡ below ++ (g ∷ above) → (k : ℕ) × (k < length quads) × (get_or quads k g ≡ g)
-    among below above g quads is = subst (λ (qs : List Quad). (k : ℕ) × (k < length qs) × (get_or qs k g ≡ g)) (sym is) (inside below above g)
-
-pub put_stays : (q : Quad) (change : Change) (store : ℕ) (a b : PageState) (result : Result Bool PairFault) → PutsIn change store a b result
-    → (EditsIn (edit_of change) (given_of change) (open_of change store) a b → EditsIn (Replaces q) Nothing (Some store) a b)
-    → (TreeGrows change a b → (under : PageMap) → Agrees b.reads under → (quads : List Quad) (slots : List Slot) → IsFormed b.stores (over a.writes under) quads slots → IsLonger q quads)
-    → IfOk result (λ _. (under : PageMap) → Agrees b.reads under → (quads : List Quad) → (slots : List Slot) → IsFormed b.stores (over a.writes under) quads slots → IsNoLonger q quads → RootStays a b)
-put_stays q change store a b (Ok true) h edits grows = λ under agrees quads slots formed no_longer. ⊎_elim
-    (λ s. s)
-    (λ g. absurd (not_both_long q quads _ (edits h.answer.0 under agrees quads slots formed tt).edit (grows g.0 under agrees quads slots formed) no_longer))
-    h.answer.1
-put_stays q change store a b (Ok false) h edits grows = λ under agrees quads slots formed no_longer. h.answer.1
-put_stays q change store a b (Err fault) h edits grows = tt
+-- a record in the place of another
+pub put_stays : (change : Change) (store : ℕ) (a b : PageState) (result : Result Bool PairFault) → PutsIn change store a b result → IfOk result (λ found. TreeStays change a b found)
+put_stays (Replace q) store a b (Ok true) h = record {
+  met = h.finds;
+  stays = λ le. ⊎_elim (λ s. s) (λ g. absurd (omega (arith, le, g.0 (known b) (known_agrees b) h.finds.gone (h.finds.meets (known b) (known_agrees b))))) h.answer.1;
+}
+put_stays (Replace q) store a b (Ok false) h = h.answer.1
+put_stays (Remove key birth) store a b (Ok found) h = tt
+put_stays (End key birth death) store a b (Ok found) h = tt
+put_stays (Insert q) store a b (Ok found) h = tt
+put_stays change store a b (Err fault) h = tt
 
 -- a removal never divides a page
 pub never_two : (change : Change) (store : ℕ) (b c : PageState) (content : Content) (left : List ℕ) (key : List ℕ) (birth : ℕ) (right : List ℕ) (P : Type 0)

@@ -15,11 +15,12 @@ use Rattle.btree_search.specs.declared.aim.Aim.TheVariants.{AtOrAfter, After}
 use Rattle.btree_search.specs.Find.{BeginsAt}
 use Rattle.btree_search.specs.Found.{HasCause}
 use Rattle.btree_search.specs.Walk.{InStores}
+use Rattle.btree_search.specs.Way.{Goes}
 use Rattle.btree_edit.specs.declared.change.Change.{Change}
 use Rattle.btree_edit.specs.declared.change.Change.TheVariants.{Remove, End, Replace, Insert}
 use Rattle.btree_edit.specs.declared.outcome.Edited.{Edited}
 use Rattle.btree_edit.specs.declared.outcome.Edited.TheVariants.{Missing, Below, Page, Two}
-use Rattle.btree_edit.specs.Edits.{bound_at, Nothing, Lacks, IsLonger}
+use Rattle.btree_edit.specs.Edits.{bound_at, Lacks}
 use Rattle.btree_edit.specs.Edited.{Room, room_in, Frame, GoesOn}
 use Rattle.btree_edit.specs.Changes.{pair_of, edit_of, given_of, open_of, AreMade}
 
@@ -83,14 +84,32 @@ IsNotMet Given pair old new content =
 abbrev pub StaysFrom : ℕ → PageState → PageState → Type 0
 StaysFrom level old new = (s : Slot) (c : Content) → Spells c (latest old.writes new.reads s) → level ≤ c.level → new.writes s ≡ old.writes s
 
--- why a page may have more cells: a record came in, or a longer one
+-- why a page may have more cells: a record came in, or one longer than that to which the way leads
 abbrev pub Grows : Change → PageState → PageState → Content → Type 0
 Grows (Remove key birth) old new content = ⊥
 Grows (End key birth death) old new content = ⊥
-Grows (Replace q) old new content =
-    (under : PageMap) (low : Bound) (high : Option Bound) (quads : List Quad) (below : List Slot)
-    → IsMet Nothing (quad_bound q.now) old new content under low high quads below → IsLonger q.now quads
+Grows (Replace q) old new content = (under : PageMap) → Agrees new.reads under → (gone : Quad)
+    → Goes (over old.writes under) (quad_bound q.now) content.level content.cells gone → length gone.value < length q.now.value
 Grows (Insert q) old new content = Unit {0}
+
+-- the way leads to a record, which is the same over all that agrees with what was read
+pub record Gone (pair : Bound) (old new : PageState) (content : Content) : Type 0 where
+  pub gone : Quad
+  pub goes : (under : PageMap) → Agrees new.reads under → Goes (over old.writes under) pair content.level content.cells gone
+
+-- what was found by an edit that puts a record in the place of another
+abbrev pub Finds : Change → PageState → PageState → Content → Type 0
+Finds (Remove key birth) old new content = Unit {0}
+Finds (End key birth death) old new content = Unit {0}
+Finds (Replace q) old new content = Gone (quad_bound q.now) old new content
+Finds (Insert q) old new content = Unit {0}
+
+abbrev pub FindsBelow : Change → PageState → PageState → Content → Result Edited PairFault → Type 0
+FindsBelow change old new content (Ok Missing) = Unit {0}
+FindsBelow change old new content (Ok Below) = Finds change old new content
+FindsBelow change old new content (Ok (Page page)) = Finds change old new content
+FindsBelow change old new content (Ok (Two left key birth right)) = Finds change old new content
+FindsBelow change old new content (Err fault) = Unit {0}
 
 -- the page becomes this one
 pub record Becomes (change : Change) (store : ℕ) (old new : PageState) (content : Content) (page : List ℕ) : Type 0 where
@@ -154,6 +173,7 @@ IsEdited change store old new content (Err fault) = HasCause old new (IsNotMet (
 pub record EditsBelow (change : Change) (store : ℕ) (old new : PageState) (content : Content) (result : Result Edited PairFault) : Type 0 where
   pub goes_on : GoesOn old new
   pub answer : IsEdited change store old new content result
+  pub finds : FindsBelow change old new content result
 
 -- ---- the parts of a page that was divided
 

@@ -1,11 +1,11 @@
 -- What each change is of a list of records, and of the cells of a leaf.
-use Rattle.std.specs.Prelude.{ℕ, ◌≡◌, ◌≢◌, ◌<◌, ◌≤◌, ◌^◌, List, length, Option, Some, None, Result, MatchResult, All, slice_get, slice_set}
+use Rattle.std.specs.Prelude.{ℕ, ◌≡◌, ◌≢◌, ◌<◌, ◌≤◌, ◌^◌, true, List, length, Option, Some, None, Result, MatchResult, All, slice_get, slice_set}
 use Rattle.std.specs.List.{remove, insert}
 use Rattle.pair_types.specs.declared.quad.Quad.{Quad}
 use Rattle.pair_types.specs.declared.fault.PairFault.{PairFault}
 use Rattle.pair_types.specs.declared.fault.PairFault.TheVariants.{Odd, HeightFull, Page as PageGave}
 use Rattle.pair_types.specs.PageState.{no_memory}
-use Rattle.btree_page.specs.Content.{Bound, Body, Carries, Leads, Entry, bound_of}
+use Rattle.btree_page.specs.Content.{Bound, Body, Carries, Leads, Entry, AreCells, bound_of}
 use Rattle.btree_page.specs.Tree.{IsRecord, quad_bound, quad_cell}
 use Rattle.btree_edit.specs.declared.change.Change.{Change}
 use Rattle.btree_edit.specs.declared.change.Change.TheVariants.{Remove, End, Replace, Insert}
@@ -74,6 +74,8 @@ pub record EndsCell (pair : Bound) (death : ℕ) (cells new : List Entry) : Type
   pub small : size new ≤ 8188
 
 pub record ReplacesCell (q : Quad) (cells new : List Entry) : Type 0 where
+  pub rules : AreCells true None cells
+  pub fitted : size cells ≤ 8188
   pub at : ℕ
   pub within : at < length cells
   pub place : (e : Entry) → slice_get cells at ≡ Some e → bound_of e ≡ quad_bound q

@@ -1,5 +1,5 @@
 -- What an edit does to every tree that agrees with what was read.
-use Rattle.std.specs.Prelude.{ℕ, ◌≡◌, ◌≢◌, ◌⊎◌, ◌+◌, ◌≤◌, List, length, Option, Some, None}
+use Rattle.std.specs.Prelude.{ℕ, ◌≡◌, ◌≢◌, ◌⊎◌, ◌+◌, ◌≤◌, Bool, true, false, List, length, Option, Some, None}
 use Rattle.nfs3_types.specs.Count.{Rose}
 use Rattle.pair_types.specs.declared.slot.Slot.{Slot}
 use Rattle.pair_types.specs.declared.quad.Quad.{Quad}
@@ -8,7 +8,8 @@ use Rattle.pair_types.specs.PageState.{PageState, Lasts, no_memory}
 use Rattle.pair_types.specs.declared.fault.PairFault.{PairFault}
 use Rattle.pair_types.specs.declared.fault.PairFault.TheVariants.{Odd, HeightFull, Page}
 use Rattle.btree_page.specs.Content.{Bound, Content, Spells}
-use Rattle.btree_page.specs.Tree.{Among, root, IsFormed}
+use Rattle.btree_page.specs.Tree.{Among, quad_bound, root, IsFormed}
+use Rattle.btree_search.specs.Way.{Meets}
 use Rattle.btree_edit.specs.Edits.{Lacks}
 
 -- where new pages may go: a store, and what was read before
@@ -81,6 +82,23 @@ RootStays = RootMoves (λ before after. (after.level ≡ before.level) × (lengt
 abbrev pub RootGrows : PageState → PageState → Type 0
 RootGrows = RootMoves (λ before after.
     ((after.level ≡ before.level) × (length after.cells ≤ length before.cells + 1)) ⊎ ((after.level ≡ before.level + 1) × (length after.cells ≡ 2)))
+
+-- over every map that agrees with what is read, under what was written before, the way of the key and
+-- the birth led to this record
+pub record WasMet (pair : Bound) (old new : PageState) : Type 0 where
+  pub gone : Quad
+  pub place : quad_bound gone ≡ pair
+  pub meets : (under : PageMap) → Agrees new.reads under → Meets (over old.writes under) pair gone
+
+-- a record came in the place of the one to which the way led: where its value is no longer, the root
+-- page stays; and where none was there, it stays in any case
+pub record KeepsSize (q : Quad) (old new : PageState) : Type 0 where
+  pub met : WasMet (quad_bound q) old new
+  pub stays : length q.value ≤ length met.gone.value → RootStays old new
+
+abbrev pub StaysWhere : Quad → PageState → PageState → Bool → Type 0
+StaysWhere q old new true = KeepsSize q old new
+StaysWhere q old new false = RootStays old new
 
 -- it was of the highest level, and had many cells
 pub record IsFull (old new : PageState) : Type 0 where

@@ -1,5 +1,5 @@
 -- Edits of a list of records, of one record each.
-use Rattle.std.specs.Prelude.{ℕ, ◌≡◌, ◌≢◌, ◌<◌, ◌≤◌, List, ◌∷◌, ◌++◌, length, All}
+use Rattle.std.specs.Prelude.{ℕ, ◌≡◌, ◌≢◌, List, ◌∷◌, ◌++◌, All}
 use Rattle.pair_types.specs.declared.quad.Quad.{Quad}
 use Rattle.btree_page.specs.Content.{Bound}
 use Rattle.btree_page.specs.Tree.{quad_bound}
@@ -49,11 +49,3 @@ pub record Inserts (q : Quad) (old new : List Quad) : Type 0 where
   pub above : List Quad
   pub was : old ≡ below ++ above
   pub now : new ≡ below ++ (q ∷ above)
-
--- each record at the key and birth of this one has a shorter value
-abbrev pub IsLonger : Quad → List Quad → Type 0
-IsLonger q quads = All (λ r. quad_bound r ≡ quad_bound q → length r.value < length q.value) quads
-
--- none has
-abbrev pub IsNoLonger : Quad → List Quad → Type 0
-IsNoLonger q quads = All (λ r. quad_bound r ≡ quad_bound q → length q.value ≤ length r.value) quads

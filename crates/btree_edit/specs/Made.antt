@@ -1,5 +1,5 @@
 -- Pages made of cells: one, or two where one has no room for them.
-use Rattle.std.specs.Prelude.{ℕ, ◌≡◌, ◌<◌, ◌≤◌, ◌==◌, List, [], ◌∷◌, length, take, drop, Some, None, slice_get}
+use Rattle.std.specs.Prelude.{ℕ, ◌≡◌, ◌<◌, ◌≤◌, ◌==◌, List, [], ◌∷◌, ◌++◌, length, take, drop, Some, None, slice_get}
 use Rattle.std.specs.List.{flat_map}
 use Rattle.btree_page.specs.Content.{Bound, Body, Carries, Leads, Entry, Spells, AreCells, bound_of, entry_spelling, inner_entry}
 use Rattle.btree_edit.specs.declared.outcome.Edited.{Edited}
@@ -9,6 +9,10 @@ use Rattle.btree_edit.specs.Edits.{bound_at}
 -- how many bytes cells take
 abbrev pub size : List Entry → ℕ
 size cells = length (flat_map entry_spelling cells)
+
+-- cells in which one stands in the place of those from one index up to another
+abbrev pub with_one : List Entry → ℕ → ℕ → Entry → List Entry
+with_one cells at past e = take at cells ++ (e ∷ drop past cells)
 
 -- a cell has no more bytes than the longest record
 abbrev pub IsShort : Entry → Type 0

@@ -1,17 +1,18 @@
 -- What an edit makes of the root, and of the tree.
-use Rattle.std.specs.Prelude.{ℕ, ◌≡◌, ◌≢◌, ◌⊎◌, Bool, true, false, List, [], ◌∷◌, Some, None, Result, Ok, Err}
+use Rattle.std.specs.Prelude.{ℕ, ◌≡◌, ◌≢◌, ◌⊎◌, Bool, true, false, ◌<◌, List, [], ◌∷◌, length, Some, None, Result, Ok, Err}
 use Rattle.pair_types.specs.declared.slot.Slot.{Slot}
 use Rattle.pair_types.specs.declared.quad.Quad.{Quad}
 use Rattle.pair_types.specs.declared.fault.PairFault.{PairFault}
 use Rattle.pair_types.specs.PageMaps.{PageMap, Agrees, over}
 use Rattle.pair_types.specs.PageState.{PageState}
 use Rattle.btree_page.specs.Content.{Bound, Spells, inner_entry}
-use Rattle.btree_page.specs.Tree.{IsFormed, quad_bound, root}
+use Rattle.btree_page.specs.Tree.{quad_bound, root}
 use Rattle.btree_search.specs.Found.{HasCause}
+use Rattle.btree_search.specs.Way.{Meets}
 use Rattle.btree_edit.specs.declared.change.Change.{Change}
 use Rattle.btree_edit.specs.declared.change.Change.TheVariants.{Remove, End, Replace, Insert}
-use Rattle.btree_edit.specs.Edits.{bound_at, IsLonger}
-use Rattle.btree_edit.specs.Edited.{EditsIn, LacksIn, HadNoTree, GoesOn, RootStays, RootGrows, HasPutCause}
+use Rattle.btree_edit.specs.Edits.{bound_at}
+use Rattle.btree_edit.specs.Edited.{WasMet, StaysWhere, EditsIn, LacksIn, HadNoTree, GoesOn, RootStays, RootGrows, HasPutCause}
 use Rattle.btree_edit.specs.Changes.{edit_of, given_of, open_of}
 
 -- the parts of the root lie in fresh slots of the store, and the root leads to both
@@ -40,12 +41,12 @@ pub record FailsSo (old new : PageState) (fault : PairFault) : Type 0 where
   pub goes_on : GoesOn old new
   pub cause : HasCause old new ⊥ fault
 
--- why a tree may grow: a record came in, or a longer one
+-- why a tree may grow: a record came in, or one longer than that to which the way leads
 abbrev pub TreeGrows : Change → PageState → PageState → Type 0
 TreeGrows (Remove key birth) old new = ⊥
 TreeGrows (End key birth death) old new = ⊥
-TreeGrows (Replace q) old new = (under : PageMap) → Agrees new.reads under → (quads : List Quad) (slots : List Slot)
-    → IsFormed new.stores (over old.writes under) quads slots → IsLonger q.now quads
+TreeGrows (Replace q) old new = (under : PageMap) → Agrees new.reads under → (gone : Quad)
+    → Meets (over old.writes under) (quad_bound q.now) gone → length gone.value < length q.now.value
 TreeGrows (Insert q) old new = Unit {0}
 
 -- a change that lets nothing grow
@@ -69,6 +70,26 @@ IsPut change store old new (Ok true) =
 IsPut change store old new (Ok false) = MissesIn change old new × RootStays old new
 IsPut change store old new (Err fault) = HasPutCause old new (HadNoTree (given_of change) old new) fault
 
+-- what was found by an edit that puts a record in the place of another
+abbrev pub TreeMet : Change → PageState → PageState → Type 0
+TreeMet (Remove key birth) old new = Unit {0}
+TreeMet (End key birth death) old new = Unit {0}
+TreeMet (Replace q) old new = WasMet (quad_bound q.now) old new
+TreeMet (Insert q) old new = Unit {0}
+
+abbrev pub TreeFinds : Change → PageState → PageState → Result Bool PairFault → Type 0
+TreeFinds change old new (Ok true) = TreeMet change old new
+TreeFinds change old new (Ok false) = Unit {0}
+TreeFinds change old new (Err fault) = Unit {0}
+
 pub record PutsIn (change : Change) (store : ℕ) (old new : PageState) (result : Result Bool PairFault) : Type 0 where
   pub goes_on : GoesOn old new
   pub answer : IsPut change store old new result
+  pub finds : TreeFinds change old new result
+
+-- how far the root page stays
+abbrev pub TreeStays : Change → PageState → PageState → Bool → Type 0
+TreeStays (Remove key birth) old new found = Unit {0}
+TreeStays (End key birth death) old new found = Unit {0}
+TreeStays (Replace q) old new found = StaysWhere q.now old new found
+TreeStays (Insert q) old new found = Unit {0}

@@ -1,19 +1,18 @@
 //! The way down to the leaf of an edit, and up again.
 
 ghost use Rattle.std.specs.Prelude.{◌≡◌, ◌<◌, ◌≤◌, false, length, MatchResult};
-ghost use Rattle.btree_page.specs.Content.{Fits, inner_entry};
+ghost use Rattle.btree_page.specs.Content.{Fits, IsPage, inner_entry};
 ghost use Rattle.btree_page.specs.Cells.{entry_of};
 ghost use Rattle.btree_edit.specs.Below.{EditsBelow, PutsTwo, GaveUp, Grafts, IsNoGraft};
 ghost use Rattle.btree_edit.specs.Changes.{FitsChange};
 ghost use Rattle.btree_edit.specs.Edits.{bound_at};
 
-use crate::build::{cells_of, pages_of};
+use crate::build::put_in;
 use crate::change::Change;
 use crate::leaf::edit_leaf;
 use crate::outcome::Edited;
 use btree_page::{Cell, PageView};
 use btree_search::{child_at, find_in, find_past, load, view_of};
-use nfs3_types::NoMemory;
 use pair_types::{Page, PageFault, Pages, PairFault, Slot};
 use std::alloc::Global;
 
@@ -67,6 +66,7 @@ fn graft<'a>(
     birth: u64,
     child: Slot,
 ) -> Result<Edited, PairFault>
+    requires rules { IsPage view.now }
     requires inner { 0 < view.now.level }
     requires behind { 0 < at }
     requires key { length key.now ≤ 264 }
@@ -79,14 +79,8 @@ fn graft<'a>(
     if here != at || past != at {
         return Err(PairFault::Odd);
     }
-    let mut cells = match cells_of(alloc, view) {
-        Ok(cells) => cells,
-        Err(fault) => return Err(PairFault::from(fault)),
-    };
-    if let Err(fault) = cells.insert(at, inner_cell(key, birth, child.store, child.number)) {
-        return Err(PairFault::from(NoMemory::from(fault)));
-    }
-    match pages_of(alloc, view.level(), &cells) {
+    let cell = inner_cell(key, birth, child.store, child.number);
+    match put_in(alloc, view, at, at, &cell) {
         Ok(edited) => Ok(edited),
         Err(fault) => Err(PairFault::from(fault)),
     }

@@ -1,9 +1,10 @@
 //! Pages made of cells.
 
 ghost use Rattle.std.specs.Prelude.{◌≡◌, ◌<◌, ◌≤◌, ◌^◌, length, map, All, IfOk};
+ghost use Rattle.std.specs.List.{remove};
 ghost use Rattle.btree_page.specs.Content.{IsNext, IsPage, Spells, with_cell, spelling, entry_spelling};
 ghost use Rattle.btree_page.specs.Cells.{entry_of};
-ghost use Rattle.btree_edit.specs.Made.{size, headed, behind, IsShort, IsNearly, IsMiddle, IsTwo, IsMadeOf};
+ghost use Rattle.btree_edit.specs.Made.{size, with_one, headed, behind, IsShort, IsNearly, IsMiddle, IsTwo, IsMadeOf};
 
 use crate::outcome::Edited;
 use btree_page::{Cell, PageBuilder, PageView};
@@ -18,7 +19,7 @@ const CELL_BYTES: usize = 8188;
 const HALF: usize = 4096;
 
 /// The cells of a page.
-pub(crate) fn cells_of<'a>(alloc: Global, view: &PageView<'a>) -> Result<Vec<Cell<'a>>, NoMemory>
+fn cells_of<'a>(alloc: Global, view: &PageView<'a>) -> Result<Vec<Cell<'a>>, NoMemory>
     ensures cells { IfOk result (λ cells. map entry_of cells.items ≡ view.now.cells) }
     ensures rules { IsPage view.now }
 {
@@ -28,6 +29,82 @@ pub(crate) fn cells_of<'a>(alloc: Global, view: &PageView<'a>) -> Result<Vec<Cel
         cells.push(cell)?;
     }
     Ok(cells)
+}
+
+/// The cells of a page, in which this one stands in the place of those from one index up to another.
+fn spliced<'a>(
+    alloc: Global,
+    view: &PageView<'a>,
+    at: usize,
+    past: usize,
+    cell: &Cell<'a>,
+) -> Result<Vec<Cell<'a>>, NoMemory>
+    requires order { at ≤ past }
+    requires within { past ≤ length view.now.cells }
+    ensures { IfOk result (λ cells. map entry_of cells.items ≡ with_one view.now.cells at past (entry_of cell.now)) }
+{
+    let old = cells_of(alloc, view)?;
+    let mut cells = Vec::with_capacity(alloc, old.len() + 1)?;
+    cells.extend_from_slice(&old[..at])?;
+    cells.push(*cell)?;
+    cells.extend_from_slice(&old[past..])?;
+    Ok(cells)
+}
+
+/// The page of a view, in which this cell stands in the place of those from one index up to another: what
+/// lies before and behind it is taken over byte by byte.
+fn one_page(
+    alloc: Global,
+    view: &PageView<'_>,
+    at: usize,
+    past: usize,
+    cell: &Cell<'_>,
+) -> Result<Page, NoMemory>
+    requires order { at ≤ past }
+    requires within { past ≤ length view.now.cells }
+    requires rules { IsPage (record { level = view.now.level; cells = with_one view.now.cells at past (entry_of cell.now) }) }
+    ensures { IfOk result (λ page. Spells (record { level = view.now.level; cells = with_one view.now.cells at past (entry_of cell.now) }) page) }
+{
+    let mut builder = PageBuilder::new(alloc, view.level())?;
+    builder.add_run(view, 0, at);
+    add(&mut builder, cell);
+    builder.add_run(view, past, view.count());
+    builder.finish()
+}
+
+/// The page of a view, in which this cell stands in the place of those from one index up to another, or two
+/// pages where one has no room.
+pub(crate) fn put_in<'a>(
+    alloc: Global,
+    view: &PageView<'a>,
+    at: usize,
+    past: usize,
+    cell: &Cell<'a>,
+) -> Result<Edited, NoMemory>
+    requires order { at ≤ past }
+    requires within { past ≤ length view.now.cells }
+    requires nearly { IsNearly view.now.level (with_one view.now.cells at past (entry_of cell.now)) }
+    ensures { IfOk result (λ edited. IsMadeOf view.now.level (with_one view.now.cells at past (entry_of cell.now)) edited) }
+{
+    let kept = view.run(0, at).len() + view.run(past, view.count()).len();
+    if kept + size_of(cell) <= CELL_BYTES {
+        let page = one_page(alloc, view, at, past, cell)?;
+        return Ok(Edited::Page(page));
+    }
+    let cells = spliced(alloc, view, at, past, cell)?;
+    pages_of(alloc, view.level(), &cells)
+}
+
+/// The page of a view without the cell at an index.
+pub(crate) fn without(alloc: Global, view: &PageView<'_>, at: usize) -> Result<Page, NoMemory>
+    requires within { at < length view.now.cells }
+    requires rules { IsPage (record { level = view.now.level; cells = remove view.now.cells at }) }
+    ensures { IfOk result (λ page. Spells (record { level = view.now.level; cells = remove view.now.cells at }) page) }
+{
+    let mut builder = PageBuilder::new(alloc, view.level())?;
+    builder.add_run(view, 0, at);
+    builder.add_run(view, at + 1, view.count());
+    builder.finish()
 }
 
 /// Adds a cell for which there is room.
@@ -141,7 +218,7 @@ fn two(alloc: Global, left: Page, edge: &Cell<'_>, right: Page) -> Result<Edited
 }
 
 /// The page of a level with these cells, or two where one has no room for them.
-pub(crate) fn pages_of(alloc: Global, level: u32, cells: &[Cell<'_>]) -> Result<Edited, NoMemory>
+fn pages_of(alloc: Global, level: u32, cells: &[Cell<'_>]) -> Result<Edited, NoMemory>
     requires { IsNearly level (map entry_of cells.now) }
     ensures { IfOk result (λ edited. IsMadeOf level (map entry_of cells.now) edited) }
 {

@@ -8,8 +8,8 @@ ghost use Rattle.btree_page.specs.Content.{IsBelow};
 ghost use Rattle.btree_page.specs.Tree.{quad_bound, least, IsRecord, IsFormed};
 ghost use Rattle.btree_search.specs.Found.{HasCause};
 ghost use Rattle.btree_edit.specs.Changes.{FitsChange, edit_of, given_of, open_of};
-ghost use Rattle.btree_edit.specs.Edits.{bound_at, Nothing, Lacks, Removes, Ends, Replaces, Inserts, IsNoLonger};
-ghost use Rattle.btree_edit.specs.Edited.{GoesOn, EditsIn, LacksIn, RootStays, RootGrows, HadNoTree, HasPutCause};
+ghost use Rattle.btree_edit.specs.Edits.{bound_at, Nothing, Lacks, Removes, Ends, Replaces, Inserts};
+ghost use Rattle.btree_edit.specs.Edited.{GoesOn, EditsIn, LacksIn, RootStays, RootGrows, StaysWhere, HadNoTree, HasPutCause};
 ghost use Rattle.std.specs.Prelude.{List};
 ghost use Rattle.btree_edit.specs.Roots.{Raises, FailsSo, NeverGrows, MissesIn, PutsIn};
 
@@ -67,11 +67,9 @@ pub fn replace<G: Pages>(
         → LacksIn (quad_bound q.now) (G.state pages.old) (G.state pages.new)) }
     ensures goes_on { GoesOn (G.state pages.old) (G.state pages.new) }
     ensures root { IfOk result (λ _. RootGrows (G.state pages.old) (G.state pages.new)) }
-    // A value that is no longer than the old one lets nothing grow.
-    ensures root_stays { IfOk result (λ _. (under : PageMap) → Agrees (G.state pages.new).reads under
-        → (quads : List Quad) → (slots : List Slot)
-        → IsFormed (G.state pages.new).stores (over (G.state pages.old).writes under) quads slots
-        → IsNoLonger q.now quads → RootStays (G.state pages.old) (G.state pages.new)) }
+    // The record that it replaced is the one to which the way of its key and birth leads, whatever the
+    // pages are, and a value that is no longer lets the root page stay.
+    ensures root_stays { IfOk result (λ found. StaysWhere q.now (G.state pages.old) (G.state pages.new) found) }
     // `Odd` where the pages were not those of a tree, `HeightFull` where the root is full, and any
     // other fault where a call over pages answered it.
     ensures fault { IfErr result (λ fault. HasPutCause (G.state pages.old) (G.state pages.new)

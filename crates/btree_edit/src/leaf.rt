@@ -1,14 +1,14 @@
 //! Edits of one leaf.
 
 ghost use Rattle.std.specs.Prelude.{◌≡◌, ◌≤◌, length, MatchResult, IfOk};
-ghost use Rattle.btree_page.specs.Content.{Fits, leaf_entry};
+ghost use Rattle.btree_page.specs.Content.{Fits, IsPage, leaf_entry};
 ghost use Rattle.std.specs.Prelude.{true};
 ghost use Rattle.btree_page.specs.Tree.{quad_bound, quad_cell, IsRecord};
 ghost use Rattle.btree_page.specs.Cells.{entry_of};
 ghost use Rattle.btree_edit.specs.Edits.{bound_at};
 ghost use Rattle.btree_edit.specs.Changes.{ended, Answers, FitsChange, RemovesCell, EndsCell, ReplacesCell, InsertsCell, IsMissing, IsRefused, EditsLeaf};
 
-use crate::build::{cells_of, pages_of};
+use crate::build::{put_in, without};
 use crate::change::Change;
 use crate::outcome::Edited;
 use btree_page::{Cell, PageView};
@@ -48,7 +48,8 @@ fn remove_from(
     key: &[u8],
     birth: u64,
 ) -> Result<Edited, NoMemory>
-    requires { view.now.level ≡ 0 }
+    requires leaf { view.now.level ≡ 0 }
+    requires rules { IsPage view.now }
     ensures { IfOk result (λ edited. Answers (RemovesCell (bound_at key.now birth) view.now.cells)
         (IsMissing (bound_at key.now birth) view.now.cells) edited) }
 {
@@ -56,9 +57,8 @@ fn remove_from(
     if at == find_past(view, key, birth) {
         return Ok(Edited::Missing);
     }
-    let mut cells = cells_of(alloc, view)?;
-    cells.remove(at);
-    pages_of(alloc, 0, &cells)
+    let page = without(alloc, view, at)?;
+    Ok(Edited::Page(page))
 }
 
 /// A cell of a leaf with another death.
@@ -89,7 +89,8 @@ fn end_in(
     birth: u64,
     death: u64,
 ) -> Result<Edited, NoMemory>
-    requires { view.now.level ≡ 0 }
+    requires leaf { view.now.level ≡ 0 }
+    requires rules { IsPage view.now }
     ensures { IfOk result (λ edited. Answers (EndsCell (bound_at key.now birth) death view.now.cells)
         (IsMissing (bound_at key.now birth) view.now.cells) edited) }
 {
@@ -97,15 +98,14 @@ fn end_in(
     if at == find_past(view, key, birth) {
         return Ok(Edited::Missing);
     }
-    let mut cells = cells_of(alloc, view)?;
-    let cell = with_death(&cells[at], death);
-    cells[at] = cell;
-    pages_of(alloc, 0, &cells)
+    let cell = with_death(&view.cell(at).unwrap(), death);
+    put_in(alloc, view, at, at + 1, &cell)
 }
 
 /// Puts a record in the place of the one at its key and birth, if one stands there.
 fn replace_in<'a>(alloc: Global, view: &PageView<'a>, q: &'a Quad) -> Result<Edited, NoMemory>
     requires leaf { view.now.level ≡ 0 }
+    requires rules { IsPage view.now }
     requires fits { IsRecord q.now }
     ensures { IfOk result (λ edited. Answers (ReplacesCell q.now view.now.cells)
         (IsMissing (quad_bound q.now) view.now.cells) edited) }
@@ -114,14 +114,13 @@ fn replace_in<'a>(alloc: Global, view: &PageView<'a>, q: &'a Quad) -> Result<Edi
     if at == find_past(view, q.key.as_slice(), q.birth) {
         return Ok(Edited::Missing);
     }
-    let mut cells = cells_of(alloc, view)?;
-    cells[at] = cell_of(q);
-    pages_of(alloc, 0, &cells)
+    put_in(alloc, view, at, at + 1, &cell_of(q))
 }
 
 /// Puts a record in, or answers `Odd` where one stands at its key and birth.
 fn insert_into<'a>(alloc: Global, view: &PageView<'a>, q: &'a Quad) -> Result<Edited, PairFault>
     requires leaf { view.now.level ≡ 0 }
+    requires rules { IsPage view.now }
     requires fits { IsRecord q.now }
     ensures { MatchResult result
         (λ edited. Answers (InsertsCell q.now view.now.cells) ⊥ edited)
@@ -131,14 +130,7 @@ fn insert_into<'a>(alloc: Global, view: &PageView<'a>, q: &'a Quad) -> Result<Ed
     if at != find_past(view, q.key.as_slice(), q.birth) {
         return Err(PairFault::Odd);
     }
-    let mut cells = match cells_of(alloc, view) {
-        Ok(cells) => cells,
-        Err(fault) => return Err(PairFault::from(fault)),
-    };
-    if let Err(fault) = cells.insert(at, cell_of(q)) {
-        return Err(PairFault::from(NoMemory::from(fault)));
-    }
-    match pages_of(alloc, 0, &cells) {
+    match put_in(alloc, view, at, at, &cell_of(q)) {
         Ok(edited) => Ok(edited),
         Err(fault) => Err(PairFault::from(fault)),
     }
@@ -151,6 +143,7 @@ pub(crate) fn edit_leaf<'a>(
     change: &Change<'a>,
 ) -> Result<Edited, PairFault>
     requires leaf { view.now.level ≡ 0 }
+    requires rules { IsPage view.now }
     requires fits { FitsChange change.now }
     ensures { EditsLeaf change.now view.now.cells result }
 {

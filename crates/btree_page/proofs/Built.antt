@@ -1,20 +1,17 @@
 -- A page that is being built, and what one cell more makes of it.
-use Rattle.std.proofs.Common.{◌≡◌, ℕ, ◌+◌, ◌<◌, ◌≤◌, Bool, true, false, List, [], ◌∷◌, ◌++◌, length, None, Result, sym, ap, subst, ◌∙◌, arith, append_assoc}
+use Rattle.std.proofs.Common.{◌≡◌, ℕ, ◌+◌, ◌<◌, ◌≤◌, Bool, true, false, List, [], ◌∷◌, ◌++◌, ◌-◌, length, take, drop, None, Result, sym, ap, subst, ◌∙◌, arith, append_assoc}
 use Rattle.std.specs.Prelude.{◌==◌}
 use Rattle.std.specs.List.{flat_map}
 use Rattle.std.specs.Int.{w16, w32, w64, to_be_bytes}
-use Rattle.std.proofs.lemmas.List.{length-append, append-nil}
+use Rattle.std.proofs.lemmas.List.{length-append, length-take, length-drop, append-nil}
 use Rattle.pair_types.specs.declared.slot.Slot.{Slot}
 use Rattle.btree_page.specs.declared.format.PageFormat.{PageFormat}
 use Rattle.btree_page.specs.Content.{Carries, Entry, Content, string, head, spelling, entry_spelling, FitsBody, AreCells, Spells, IsNext, with_cell, leaf_entry, inner_entry}
 use Rattle.btree_page.specs.Reading.{Ahead, from_place}
 use Rattle.btree_page.specs.Builder.{built, cells_in, IsBuilt, with_count}
+use Rattle.btree_page.proofs.Index.{flat_map-push}
+use Rattle.btree_page.proofs.Runs.{flat_append}
 use Rattle.btree_page.proofs.Cells.{cells_again, cells_many, AreCells-push}
-
-flat_map-push : (cells : List Entry) (e : Entry) → flat_map entry_spelling (cells ++ e ∷ []) ≡ flat_map entry_spelling cells ++ entry_spelling e
-flat_map-push [] e = append-nil (entry_spelling e)
-flat_map-push (c ∷ cells) e =
-    ap (λ (xs : List ℕ). entry_spelling c ++ xs) (flat_map-push cells e) ∙ sym (append_assoc (entry_spelling c) (flat_map entry_spelling cells) (entry_spelling e))
 
 -- the bytes of a page that is built from these cells
 abbrev pub bytes_of : ℕ → List Entry → List ℕ
@@ -141,3 +138,40 @@ pub size_with : (page : Content) (level count spare : ℕ) (bytes : List ℕ) (e
     → length (spelling (with_cell page e)) ≡ length bytes + length (entry_spelling e)
 size_with page level count spare bytes e view h =
     ap (λ (p : Content). length (spelling (with_cell p e))) (sym view) ∙ size_more level count spare bytes e h
+
+-- what a run of cells makes of the page that is seen
+pub added_run : (page : Content) (level count spare spare' n : ℕ) (bytes bytes' : List ℕ) (run : List Entry)
+    → record { level = level; cells = built level count bytes } ≡ page → IsBuilt level count bytes spare → AreCells (page.level == 0) None (page.cells ++ run)
+    → length run ≡ n → bytes' ≡ bytes ++ flat_map entry_spelling run → length bytes + length (flat_map entry_spelling run) ≤ 8192 → spare' + length (flat_map entry_spelling run) ≡ spare
+    → IsBuilt level (count + n) bytes' spare' × (record { level = level; cells = built level (count + n) bytes' } ≡ record page { cells = page.cells ++ run })
+added_run page level count spare spare' n bytes bytes' run view h rules long is short room =
+    let cells = built level count bytes in
+    let here : AreCells (level == 0) None (cells ++ run) = subst (λ (p : Content). AreCells (p.level == 0) None (p.cells ++ run)) (sym view) rules in
+    let spelled : bytes' ≡ bytes_of level (cells ++ run) =
+    is ∙ (ap (λ (xs : List ℕ). xs ++ flat_map entry_spelling run) h.spelled ∙ ap (λ (xs : List ℕ). 1 ∷ level ∷ 0 ∷ 0 ∷ xs) (sym (flat_append cells run))) in
+    let len : length bytes' ≡ length bytes + length (flat_map entry_spelling run) = ap (λ (xs : List ℕ). length xs) is ∙ length-append bytes (flat_map entry_spelling run) in
+    let more = is_built level (count + n) spare' bytes' (cells ++ run) h.byte spelled here
+    (omega (arith, length-append cells run, h.counted, long)) (omega (arith, len, short)) (omega (arith, len, h.room, room)) in (
+      more.0,
+      ap (λ (cs : List Entry). let made : Content = record { level = level; cells = cs } in made) more.1
+          ∙ ap (λ (p : Content). let made : Content = record { level = p.level; cells = p.cells ++ run } in made) view,
+    )
+
+-- how long the page is with a run of cells more
+pub size_run : (page : Content) (level count spare : ℕ) (bytes : List ℕ) (run : List Entry)
+    → record { level = level; cells = built level count bytes } ≡ page → IsBuilt level count bytes spare
+    → length (spelling (record page { cells = page.cells ++ run })) ≡ length bytes + length (flat_map entry_spelling run)
+size_run page level count spare bytes run view h =
+    let cells = built level count bytes in
+    let here : length (spelling (record { level = level; cells = cells ++ run })) ≡ length bytes + length (flat_map entry_spelling run) = omega (
+      arith,
+      ap (λ (xs : List ℕ). length xs) h.spelled,
+      ap (λ (xs : List ℕ). length xs) (flat_append cells run),
+      length-append (flat_map entry_spelling cells) (flat_map entry_spelling run),
+      length-append (head level (length (cells ++ run))) (flat_map entry_spelling (cells ++ run)),
+    ) in
+    subst (λ (p : Content). length (spelling (record { level = p.level; cells = p.cells ++ run })) ≡ length bytes + length (flat_map entry_spelling run)) view here
+
+-- as many cells as the run takes
+pub run_long : (cells : List Entry) (from to : ℕ) → from ≤ to → to ≤ length cells → length (take (to - from) (drop from cells)) ≡ to - from
+run_long cells from to le within = omega (arith, length-take (to - from) (drop from cells), length-drop from cells)

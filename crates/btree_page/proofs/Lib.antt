@@ -5,3 +5,4 @@ pub mod Index
 pub mod Trees
 pub mod Whole
 pub mod Witnessed
+pub mod Runs

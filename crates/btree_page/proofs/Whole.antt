@@ -11,10 +11,10 @@ use Rattle.btree_page.specs.declared.format.PageFormat.{PageFormat}
 use Rattle.btree_page.specs.declared.format.PageFormat.TheVariants.{Malformed}
 use Rattle.btree_page.specs.Content.{Entry, Content, head, spelling, entry_spelling, IsPage, Spells}
 use Rattle.btree_page.specs.Reading.{◌>>=◌, Ahead, ahead, fails, number_at, head_at, cells_at, plain_at, page_at, from_place, value_of, cell_in}
-use Rattle.btree_page.specs.View.{StandsAt, IsIndex, IsTable, content_in, content_of, IsIndexed}
+use Rattle.btree_page.specs.View.{size_to, StandsAt, IsIndex, IsTable, content_in, content_of, IsIndexed}
 use Rattle.btree_page.proofs.Fields.{IsBytes, IsBytes-take, small, bind_ok, bind_by, bind_err, test_ok, ok_is, Takes, Takes-then, past, wide8, wide16, number_takes, number_again}
 use Rattle.btree_page.proofs.Cells.{cells_take, cells_again, cells_many}
-use Rattle.btree_page.proofs.Index.{cells_count_of}
+use Rattle.btree_page.proofs.Index.{cells_count_of, number_moves}
 
 abbrev pub start : List ℕ → Ahead
 start text = record { place = 0; bytes = take 8192 text }
@@ -90,28 +90,44 @@ page_reads text h cells e f same =
 pub whole_text : (text : List ℕ) (n : ℕ) → n ≤ length (take 8192 text) → n ≡ length text → take 8192 text ≡ text
 whole_text text n le same = take_all 8192 text (omega (arith, length-take 8192 text))
 
+abbrev after_count : ℕ × Ahead → ℕ × Ahead → Result ((ℕ × ℕ) × Ahead) PageFormat
+after_count level count = cond (level.0 == 0 || nat_le 2 count.0) (Ok ((level.0, count.0), count.1)) (fails level.1)
+
+head_moves : (a : Ahead) (h : (ℕ × ℕ) × Ahead) → head_at a ≡ Ok h → h.1.place ≡ a.place + 4
+unfolding head_at
+head_moves a h e =
+    let f = bind_ok (number_at w8 a) (λ format. cond (format.0 == 1) (number_at w8 format.1 >>= λ level. number_at w16 level.1 >>= λ count. after_count level count) (fails a)) h e in
+    let t = test_ok (f.0.0 == 1) (Malformed a.place) (number_at w8 f.0.1 >>= λ level. number_at w16 level.1 >>= λ count. after_count level count) h f.2 in
+    let l = bind_ok (number_at w8 f.0.1) (λ level. number_at w16 level.1 >>= λ count. after_count level count) h t.1 in
+    let n = bind_ok (number_at w16 l.0.1) (λ count. after_count l.0 count) h l.2 in
+    let g = test_ok (l.0.0 == 0 || nat_le 2 n.0.0) (Malformed l.0.1.place) (Ok ((l.0.0, n.0.0), n.0.1)) h n.2 in
+    omega (arith, number_moves w8 a f.0 f.1, number_moves w8 f.0.1 l.0 l.1, number_moves w16 l.0.1 n.0 n.1, ap (λ (p : (ℕ × ℕ) × Ahead). p.1.place) (ok_is ((l.0.0, n.0.0), n.0.1) h g.1))
+
 -- what a table of places becomes when the page was read to its end
 pub indexed_so : (text : List ℕ) (level count : ℕ) (table : List ℕ) (from now : Position) → from.text ≡ take 8192 text
     → now.text ≡ from.text → now.place ≤ length now.text → now.place ≡ length text
     → head_at (start text) ≡ Ok ((level, count), ahead from) → IsTable (level == 0) count from now table
-    → (page_at text ≡ Ok (content_of text) → IsPage (content_of text))
+    → (page_at text ≡ Ok (content_of text) → Spells (content_of text) text)
     → IsIndexed text level count table
-indexed_so text level count table from now cut kept within end e made rules =
+indexed_so text level count table from now cut kept within end e made spells =
     let index : IsIndex (level == 0) count from.text (ahead from) (ahead now) table made.0 = made.1 in
     let read : page_at text ≡ Ok (record { level = level; cells = made.0 }) =
     page_reads text ((level, count), ahead from) (made.0, ahead now) e index.read end in
     let is : content_of text ≡ record { level = level; cells = made.0 } = ap (λ (r : Result Content PageFormat). content_in r) read in
     let whole : from.text ≡ text =
     cut ∙ whole_text text now.place (omega (arith, within, ap (λ (xs : List ℕ). length xs) kept, ap (λ (xs : List ℕ). length xs) cut)) end in
+    let spelled = spells (read ∙ ap (λ (c : Content). Ok c) (sym is)) in
     record {
       read = read ∙ ap (λ (c : Content). Ok c) (sym is);
-      rules = rules (read ∙ ap (λ (c : Content). Ok c) (sym is));
+      rules = spelled.rules;
+      spelled = spelled.text;
       level = ap (λ (c : Content). c.level) is;
       count = ap (λ (c : Content). length c.cells) is ∙ cells_count_of (level == 0) count from.text (ahead from) (ahead now) table made.0 index;
       few = index.few;
       places = λ k lt.
           subst (λ (c : Content). StandsAt (level == 0) text (slice_index table k) (slice_get c.cells k)) (sym is)
           (subst (λ (xs : List ℕ). StandsAt (level == 0) xs (slice_index table k) (slice_get made.0 k)) whole (index.places k lt));
+      tiles = λ k lt. omega (arith, index.tiles k lt, head_moves (start text) ((level, count), ahead from) e, ap (λ (c : Content). size_to k c.cells) is);
     }
 
 -- ---- one cell of a page
@@ -169,9 +185,6 @@ least_from_test level count test more =
       | inl zero_level ↦ absurd (omega (arith, eqb-true level 0 zero_level))
       | inr enough ↦ leb-true 2 count enough
     ]
-
-abbrev after_count : ℕ × Ahead → ℕ × Ahead → Result ((ℕ × ℕ) × Ahead) PageFormat
-after_count level count = cond (level.0 == 0 || nat_le 2 count.0) (Ok ((level.0, count.0), count.1)) (fails level.1)
 
 pub head_takes : (a : Ahead) (h : (ℕ × ℕ) × Ahead) → IsBytes a.bytes → head_at a ≡ Ok h → HeadTakes a h
 unfolding head_at

@@ -1,13 +1,10 @@
 -- The smallest trees are trees.
-use Rattle.std.proofs.Common.{◌≡◌, ◌≢◌, ℕ, zero, suc, ◌<◌, ◌≤◌, ◌⊎◌, inl, inr, ⊎_elim, Bool, true, false, List, [], ◌∷◌, ◌++◌, map, length, Option, Some, None, IsSome, refl, sym, ap, subst, ◌∙◌, arith}
-use Rattle.std.specs.Prelude.{◌==◌}
-use Rattle.std.specs.List.{flat_map}
+use Rattle.std.proofs.Common.{◌≡◌, ◌≢◌, ℕ, zero, suc, ◌<◌, ⊎_elim, List, [], ◌∷◌, ◌++◌, Option, Some, None, IsSome, refl, sym, ap, subst, ◌∙◌, arith}
 use Rattle.std.proofs.lemmas.List.{length-append}
 use Rattle.pair_types.specs.declared.slot.Slot.{Slot}
-use Rattle.pair_types.specs.declared.quad.Quad.{Quad}
-use Rattle.btree_page.specs.Content.{Bound, IsBelow, Entry, Content, Spells, AreCells, IsPage, spelling, head, entry_spelling, inner_entry}
-use Rattle.btree_page.specs.Tree.{Holds, IsIn, Apart, Among, quad_cell, Child, child_cell, IsLeaf, root, least}
-use Rattle.btree_page.specs.Witness.{slot, record_at, leaf_of, in_store, in_first, one_leaf, two_leaves, AreTrees}
+use Rattle.btree_page.specs.Content.{Bound, IsBelow, Spells, spelling, head, entry_spelling, inner_entry}
+use Rattle.btree_page.specs.Tree.{Apart, quad_cell, Child, child_cell}
+use Rattle.btree_page.specs.Witness.{slot, record_at, leaf_of, in_store, one_leaf, two_leaves, AreTrees}
 use Rattle.btree_page.proofs.Built.{leaf_size, inner_size}
 
 none_is_not_some : IsSome {T = List ℕ} None → ⊥

@@ -1,5 +1,5 @@
 -- The page grammar: what a page of a tree holds, which rules it keeps, and its one spelling.
-use Rattle.std.specs.Prelude.{ℕ, ◌≡◌, ◌<◌, ◌≤◌, ◌^◌, Bool, true, false, List, [], ◌∷◌, ◌++◌, length, Option, Some, None, ◌==◌}
+use Rattle.std.specs.Prelude.{ℕ, ◌≡◌, ◌<◌, ◌≤◌, ◌^◌, Bool, true, false, List, [], ◌∷◌, ◌++◌, ◌-◌, length, take, drop, Option, Some, None, ◌==◌}
 use Rattle.std.specs.List.{flat_map}
 use Rattle.std.specs.Int.{w16, w32, w64, to_be_bytes}
 use Rattle.std.specs.Ordering.{nat_cmp, ordering_then}
@@ -102,6 +102,10 @@ pub record Spells (content : Content) (bytes : List ℕ) : Type 0 where
 -- a page with one cell more
 abbrev pub with_cell : Content → Entry → Content
 with_cell page e = record page { cells = page.cells ++ e ∷ [] }
+
+-- a page with the cells of another from one index up to the next one
+abbrev pub with_run : Content → Content → ℕ → ℕ → Content
+with_run page other from to = record page { cells = page.cells ++ take (to - from) (drop from other.cells) }
 
 -- a cell that may be added: it is one of this kind of page, and above the cells so far
 pub record IsNext (page : Content) (e : Entry) : Type 0 where

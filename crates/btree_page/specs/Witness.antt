@@ -3,7 +3,7 @@ use Rattle.std.specs.Prelude.{ℕ, zero, suc, List, [], ◌∷◌, Option, Some,
 use Rattle.pair_types.specs.declared.slot.Slot.{Slot}
 use Rattle.pair_types.specs.declared.quad.Quad.{Quad}
 use Rattle.pair_types.specs.PageMaps.{PageMap}
-use Rattle.btree_page.specs.Content.{Content, spelling, inner_entry}
+use Rattle.btree_page.specs.Content.{spelling, inner_entry}
 use Rattle.btree_page.specs.Tree.{quad_cell, root, IsFormed}
 
 -- a slot of store 0

@@ -1,10 +1,11 @@
 //! Pages made cell by cell.
 
-ghost use Rattle.std.specs.Prelude.{◌≡◌, ◌+◌, ◌^◌, ◌<◌, ◌≤◌, ◌↔◌, ◌++◌, [], length, IfOk, IsErr, OnOk, OnErr};
+ghost use Rattle.std.specs.Prelude.{◌≡◌, ◌+◌, ◌^◌, ◌<◌, ◌≤◌, ◌↔◌, ◌++◌, ◌==◌, None, [], length, IfOk, IsErr, OnOk, OnErr};
 ghost use Rattle.std.specs.Int.{w64, to_be_bytes};
 ghost use Rattle.btree_page.specs.Builder.{with_count};
-ghost use Rattle.btree_page.specs.Content.{string, Content, Spells, IsNext, with_cell, leaf_entry, inner_entry, spelling, entry_spelling};
+ghost use Rattle.btree_page.specs.Content.{string, Content, Spells, IsNext, AreCells, with_cell, with_run, leaf_entry, inner_entry, spelling, entry_spelling};
 
+use crate::view::PageView;
 use bytes::BytesMut;
 use nfs3_types::NoMemory;
 use pair_types::{Page, Slot};
@@ -41,6 +42,7 @@ impl Model for PageBuilder {
 }
 
 /// Puts a key and a birth where there is room for them.
+#[inline(always)]
 fn put_head(out: &mut BytesMut, key: &[u8], birth: u64)
     requires key { length key.now ≤ 264 }
     requires room { 10 + length key.now ≤ out.old.spare }
@@ -52,6 +54,7 @@ fn put_head(out: &mut BytesMut, key: &[u8], birth: u64)
 }
 
 /// Puts two bytes of length and the bytes where there is room for them.
+#[inline(always)]
 fn put_string(out: &mut BytesMut, bytes: &[u8])
     requires short { length bytes.now ≤ 1200 }
     requires room { 2 + length bytes.now ≤ out.old.spare }
@@ -64,6 +67,7 @@ fn put_string(out: &mut BytesMut, bytes: &[u8])
 }
 
 /// Puts a record where there is room for it.
+#[inline(always)]
 fn put_leaf(out: &mut BytesMut, key: &[u8], birth: u64, death: u64, value: &[u8])
     requires key { length key.now ≤ 264 }
     requires value { length value.now ≤ 1200 }
@@ -77,6 +81,7 @@ fn put_leaf(out: &mut BytesMut, key: &[u8], birth: u64, death: u64, value: &[u8]
 }
 
 /// Puts a child where there is room for it.
+#[inline(always)]
 fn put_inner(out: &mut BytesMut, key: &[u8], birth: u64, child: Slot)
     requires key { length key.now ≤ 264 }
     requires room { 22 + length key.now ≤ out.old.spare }
@@ -155,7 +160,19 @@ impl PageBuilder {
         Ok(())
     }
 
-    /// The page of the cells so far.
+    /// Adds the cells of a page from one index up to another, for which there is room, by their bytes.
+    pub fn add_run(&mut self, view: &PageView<'_>, from: usize, to: usize)
+        requires order { from ≤ to }
+        requires within { to ≤ length view.now.cells }
+        requires rules { AreCells (self.old.level == 0) None (with_run self.old view.now from to).cells }
+        requires room { length (spelling (with_run self.old view.now from to)) ≤ 8192 }
+        ensures { self.new ≡ with_run self.old view.now from to }
+    {
+        self.bytes.extend_reserved(view.run(from, to));
+        self.count += (to - from) as u16;
+    }
+
+    /// The page of the cells so far. It keeps no more memory than its bytes fill.
     pub fn finish(self) -> Result<Page, NoMemory>
         requires { 0 < self.level → 2 ≤ length self.cells }
         ensures { IfOk result (λ page. Spells self page) }
@@ -166,8 +183,6 @@ impl PageBuilder {
             ..
         } = self;
         set_count(&mut bytes, count);
-        let end = bytes.len();
-        let bytes = bytes.freeze_to(end)?;
-        Ok(Page::from_bytes(bytes))
+        Page::from_slice(*bytes.allocator(), bytes.as_slice())
     }
 }

@@ -18,6 +18,7 @@ const VALUE_LIMIT: usize = 1200;
 
 /// The next bytes, this many.
 #[tactic(auto, unfolding(crate::specs::Reading::part_at))]
+#[inline(always)]
 fn part<'a>(cursor: &mut Cursor<'a>, n: usize) -> Result<&'a [u8], PageFormat>
     ensures len { IfOk result (λ part. length part.now ≡ n) }
     ensures gives { Gives (λ part. part.now) (part_at n) cursor.old cursor.new result }
@@ -32,6 +33,7 @@ fn part<'a>(cursor: &mut Cursor<'a>, n: usize) -> Result<&'a [u8], PageFormat>
 
 /// A number of one byte.
 #[tactic(auto, unfolding(crate::specs::Reading::number_at))]
+#[inline(always)]
 fn byte(cursor: &mut Cursor<'_>) -> Result<u8, PageFormat>
     ensures gives { Gives (λ x. x) (number_at w8) cursor.old cursor.new result }
     ensures text { cursor.new.text ≡ cursor.old.text }
@@ -42,6 +44,7 @@ fn byte(cursor: &mut Cursor<'_>) -> Result<u8, PageFormat>
 
 /// A number of two bytes, the highest first.
 #[tactic(auto, unfolding(crate::specs::Reading::number_at))]
+#[inline(always)]
 fn short(cursor: &mut Cursor<'_>) -> Result<u16, PageFormat>
     ensures gives { Gives (λ x. x) (number_at w16) cursor.old cursor.new result }
     ensures text { cursor.new.text ≡ cursor.old.text }
@@ -52,6 +55,7 @@ fn short(cursor: &mut Cursor<'_>) -> Result<u16, PageFormat>
 
 /// A number of four bytes, the highest first.
 #[tactic(auto, unfolding(crate::specs::Reading::number_at))]
+#[inline(always)]
 fn word(cursor: &mut Cursor<'_>) -> Result<u32, PageFormat>
     ensures gives { Gives (λ x. x) (number_at w32) cursor.old cursor.new result }
     ensures text { cursor.new.text ≡ cursor.old.text }
@@ -62,6 +66,7 @@ fn word(cursor: &mut Cursor<'_>) -> Result<u32, PageFormat>
 
 /// A number of eight bytes, the highest first.
 #[tactic(auto, unfolding(crate::specs::Reading::number_at))]
+#[inline(always)]
 fn hyper(cursor: &mut Cursor<'_>) -> Result<u64, PageFormat>
     ensures gives { Gives (λ x. x) (number_at w64) cursor.old cursor.new result }
     ensures text { cursor.new.text ≡ cursor.old.text }
@@ -74,6 +79,7 @@ fn hyper(cursor: &mut Cursor<'_>) -> Result<u64, PageFormat>
 
 /// Two bytes of length, and that many bytes.
 #[tactic(auto, unfolding(crate::specs::Reading::string_at))]
+#[inline(always)]
 fn string<'a>(cursor: &mut Cursor<'a>, limit: usize) -> Result<&'a [u8], PageFormat>
     ensures gives { Gives (λ part. part.now) (string_at limit) cursor.old cursor.new result }
     ensures text { cursor.new.text ≡ cursor.old.text }
@@ -88,6 +94,7 @@ fn string<'a>(cursor: &mut Cursor<'a>, limit: usize) -> Result<&'a [u8], PageFor
 
 /// The rest of a cell whose key and birth were read.
 #[tactic(auto, unfolding(crate::specs::Reading::rest_at, crate::specs::Reading::body_at))]
+#[inline(always)]
 fn rest<'a>(
     cursor: &mut Cursor<'a>,
     is_leaf: bool,
@@ -118,6 +125,7 @@ fn rest<'a>(
 }
 
 /// Whether a cell with this key and birth may follow the one before it.
+#[inline(always)]
 fn may_follow(is_leaf: bool, before: Option<Bound<'_>>, key: &[u8], birth: u64) -> bool
     ensures { result ≡ may_follow is_leaf (edge_of before.entry) key.now birth }
 {
@@ -128,6 +136,7 @@ fn may_follow(is_leaf: bool, before: Option<Bound<'_>>, key: &[u8], birth: u64) 
 }
 
 /// How long a key may be after the cell before it.
+#[inline(always)]
 fn key_limit(is_leaf: bool, before: Option<Bound<'_>>) -> usize
     ensures { result ≡ key_limit is_leaf (edge_of before.entry) }
 {
@@ -140,6 +149,7 @@ fn key_limit(is_leaf: bool, before: Option<Bound<'_>>) -> usize
 
 /// The next cell.
 #[tactic(auto, unfolding(crate::specs::Reading::entry_at))]
+#[inline(always)]
 pub(crate) fn cell<'a>(
     cursor: &mut Cursor<'a>,
     is_leaf: bool,
@@ -159,6 +169,7 @@ pub(crate) fn cell<'a>(
 
 /// A cell wherever it stands, without the order of cells.
 #[tactic(auto, unfolding(crate::specs::Reading::plain_at))]
+#[inline(always)]
 pub(crate) fn plain<'a>(cursor: &mut Cursor<'a>, is_leaf: bool) -> Result<Cell<'a>, PageFormat>
     ensures gives { Gives (λ cell. entry_of cell) (plain_at is_leaf) cursor.old cursor.new result }
 {

@@ -1,10 +1,11 @@
 //! A page, seen as its cells.
 
-ghost use Rattle.std.specs.Prelude.{◌≡◌, ◌+◌, ◌*◌, ◌<◌, ◌≤◌, ◌↔◌, length, take, None, slice_get, IsNone, IfSome, IfOk, IfErr, IsOkAnd, OnOk, MatchResult};
-ghost use Rattle.btree_page.specs.Content.{Content, IsPage, Spells};
+ghost use Rattle.std.specs.Prelude.{◌≡◌, ◌+◌, ◌-◌, ◌*◌, ◌<◌, ◌≤◌, ◌↔◌, length, take, drop, None, slice_get, IsNone, IfSome, IfOk, IfErr, IsOkAnd, OnOk, MatchResult};
+ghost use Rattle.btree_page.specs.Content.{Content, IsPage, Spells, entry_spelling};
 ghost use Rattle.btree_page.specs.Cells.{entry_of};
 ghost use Rattle.btree_page.specs.Reading.{ahead, cells_at, page_at};
-ghost use Rattle.btree_page.specs.View.{IsTable};
+ghost use Rattle.btree_page.specs.View.{size_to, IsTable};
+ghost use Rattle.std.specs.List.{flat_map};
 
 use crate::cell::{Bound, Cell};
 use crate::format::PageFormat;
@@ -102,20 +103,43 @@ impl<'a> PageView<'a> {
         })
     }
 
-    /// The level of the page: 0 for a leaf.
+    /// The level of the page: 0 for a leaf. Whatever a view shows keeps the rules of a page.
     pub fn level(&self) -> u32
         ensures level { result ≡ self.now.level }
         ensures byte { result < 256 }
+        ensures rules { IsPage self.now }
     {
         u32::from(self.level)
     }
 
-    /// How many cells the page has. Whatever a view shows keeps the rules of a page.
+    /// How many cells the page has.
     pub fn count(&self) -> usize
         ensures count { result ≡ length self.now.cells }
         ensures rules { IsPage self.now }
     {
         usize::from(self.count)
+    }
+
+    /// The bytes of the cells from one index up to another, as they stand in the page.
+    pub fn run(&self, from: usize, to: usize) -> &'a [u8]
+        requires order { from ≤ to }
+        requires within { to ≤ length self.now.cells }
+        ensures bytes { result.now ≡ flat_map entry_spelling (take (to - from) (drop from self.now.cells)) }
+        ensures few { to ≤ 410 }
+    {
+        &self.text[self.place_of(from)..self.place_of(to)]
+    }
+
+    /// Where the cell at an index begins, or the page ends.
+    fn place_of(&self, i: usize) -> usize
+        requires { i ≤ length self.now.cells }
+        ensures { result ≡ 4 + size_to i self.now.cells }
+    {
+        if i < usize::from(self.count) {
+            usize::from(self.places[i])
+        } else {
+            self.text.len()
+        }
     }
 
     /// The cell at an index. `None` exactly where the page has no more than so many cells.

@@ -1,5 +1,5 @@
 -- An inner page's children from the last one back to the first, and the last cell of a leaf that is not above a place.
-use Rattle.std.proofs.Common.{◌≡◌, ◌≢◌, ℕ, zero, suc, ◌-◌, ◌<◌, ◌≤◌, ⊎_elim, Bool, true, false, List, [], ◌∷◌, ◌++◌, map, length, take, Option, Some, None, Result, Ok, Err, refl, sym, ap, subst, ◌∙◌, arith, append_assoc}
+use Rattle.std.proofs.Common.{◌≡◌, ◌≢◌, ℕ, zero, suc, ◌<◌, ◌≤◌, ⊎_elim, Bool, true, false, List, [], ◌∷◌, ◌++◌, map, length, take, Option, Some, None, Result, Ok, Err, refl, sym, ap, subst, ◌∙◌, arith, append_assoc}
 use Rattle.std.specs.Prelude.{All, Contains, slice_get, ◌==◌, IfOk, IfErr}
 use Rattle.std.specs.Ordering.{nat_cmp}
 use Rattle.std.specs.declared.cmp.Ordering.{Ordering}
@@ -24,8 +24,8 @@ use Rattle.btree_search.specs.Walk.{IsFinal, IsLeafFault, LeadsAt, Walks}
 use Rattle.btree_search.proofs.Order.{cells_rise, turned, greater_sought}
 use Rattle.btree_search.proofs.Ranges.{below_from, is_inner}
 use Rattle.btree_search.proofs.Parts.{Along, UnderNext, OverNext, not_both}
-use Rattle.btree_search.proofs.Leaves.{all_cells, among_cells, same_quad, within_list, leaf_cells}
-use Rattle.btree_search.proofs.Walks.{Seen, Sees, Passing, along_part, only_same}
+use Rattle.btree_search.proofs.Leaves.{all_cells, among_cells, same_quad, leaf_cells}
+use Rattle.btree_search.proofs.Walks.{Sees, Passing, along_part, only_same}
 
 -- ---- lists
 

@@ -6,3 +6,4 @@ pub mod Parts
 pub mod Ranges
 pub mod Searches
 pub mod Walks
+pub mod Ways

@@ -16,7 +16,7 @@ use Rattle.btree_search.specs.Find.{BeginsAt}
 use Rattle.btree_search.specs.Found.{IsFound, OnlyReads, HasCause}
 use Rattle.btree_search.specs.Walk.{InStores, IsPart, HasNoPart, IsShown, LeadsAt, HasNoChild, IsChildPage, Walks}
 use Rattle.btree_search.proofs.Ranges.{root_page, children_rise}
-use Rattle.btree_search.proofs.Parts.{Along, along_kids, Passed, skip, Opened, opens, passes, hits, ends}
+use Rattle.btree_search.proofs.Parts.{Along, along_kids, Passed, skip, opens, passes, hits, ends}
 
 -- ---- states one after the other
 
@@ -71,7 +71,7 @@ part_before old new content under quads h part = record {
 
 -- ---- pages that were read
 
-told : (r : Option (Option (List ℕ))) → IsSome r → r ≡ Some (unwrap_or r None)
+pub told : (r : Option (Option (List ℕ))) → IsSome r → r ≡ Some (unwrap_or r None)
 told (Some held) some = refl
 told None some = cc
 
@@ -96,7 +96,7 @@ same_content p slot a b h k =
     has_one_content k.bytes a b (subst (λ (xs : List ℕ). Spells a xs) bytes h.spelled) k.spelled
 
 -- a cell leads to one child
-one_child : (cells : List Entry) (i : ℕ) (a b : Slot) → LeadsAt cells i a → LeadsAt cells i b → a ≡ b
+pub one_child : (cells : List Entry) (i : ℕ) (a b : Slot) → LeadsAt cells i a → LeadsAt cells i b → a ≡ b
 one_child cells i a b h k =
     let some : Some h.cell ≡ Some k.cell = sym h.there ∙ k.there in
     let cell : h.cell ≡ k.cell = cc in

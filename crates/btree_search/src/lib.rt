@@ -9,11 +9,13 @@
 
 mod aim;
 mod find;
+mod laws;
 mod search;
 mod steps;
 mod walk;
 
 pub use aim::Aim;
 pub use find::{find_in, find_past};
+pub use laws::meets_records;
 pub use search::{next, seek, seek_back};
 pub use steps::{child_at, load, view_of};

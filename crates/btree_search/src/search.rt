@@ -3,6 +3,7 @@
 ghost use Rattle.std.specs.Prelude.{◌≡◌, IfSome, IfOk, IfErr};
 ghost use Rattle.btree_search.specs.declared.aim.Aim.TheVariants.{AtOrAfter, After};
 ghost use Rattle.btree_search.specs.Found.{IsFound, IsFloor, IsFoundIn, HasNoTree, OnlyReads, HasCause};
+ghost use Rattle.btree_search.specs.Way.{FindsMet};
 ghost use Rattle.btree_page.specs.Tree.{IsRecord};
 
 use crate::aim::Aim;
@@ -30,6 +31,8 @@ pub fn seek<G: Pages>(
     // `None` where no record is at or after them.
     ensures found { IfOk result (λ found.
         IsFoundIn (IsFound AtOrAfter (record { key = key.now; birth = birth })) (G.state pages.new) found) }
+    // The record to which the way of the key and the birth leads is found, whatever the pages are.
+    ensures met { IfOk result (λ found. FindsMet (record { key = key.now; birth = birth }) (G.state pages.new) found) }
     // What is given is a record, whatever the pages are.
     ensures record_fits { IfOk result (λ found. IfSome found (λ q. IsRecord q)) }
     ensures only_reads { OnlyReads (G.state pages.old) (G.state pages.new) }
@@ -98,6 +101,8 @@ fn search<G: Pages>(
 ) -> Result<Option<Quad>, PairFault>
     ensures found { IfOk result (λ found.
         IsFoundIn (IsFound aim (record { key = key.now; birth = birth })) (G.state pages.new) found) }
+    ensures met { aim ≡ AtOrAfter → IfOk result (λ found.
+        FindsMet (record { key = key.now; birth = birth }) (G.state pages.new) found) }
     ensures record_fits { IfOk result (λ found. IfSome found (λ q. IsRecord q)) }
     ensures only_reads { OnlyReads (G.state pages.old) (G.state pages.new) }
     ensures fault { IfErr result (λ fault.

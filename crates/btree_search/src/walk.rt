@@ -2,8 +2,9 @@
 
 ghost use Rattle.std.specs.Prelude.{◌≡◌, ◌≤◌, length, IfSome, IfOk, IfErr};
 ghost use Rattle.btree_page.specs.Tree.{quad_cell, IsRecord};
-ghost use Rattle.btree_page.specs.Content.{leaf_entry};
+ghost use Rattle.btree_page.specs.Content.{IsPage, leaf_entry};
 ghost use Rattle.btree_search.specs.Found.{IsFound, IsFloor};
+ghost use Rattle.btree_search.specs.Way.{FindsFrom};
 ghost use Rattle.btree_search.specs.Walk.{IsFirst, IsFinal, IsLeafFault, Walks};
 
 use crate::aim::Aim;
@@ -45,6 +46,7 @@ fn first_in(
     key: &[u8],
     birth: u64,
 ) -> Result<Option<Quad>, PairFault>
+    ensures rules { IsPage view.now }
     ensures first { IfOk result (λ found. IsFirst aim (record { key = key.now; birth = birth }) view.now.cells found) }
     ensures record_fits { IfOk result (λ found. IfSome found (λ q. IsRecord q)) }
     ensures fault { IfErr result (λ fault. IsLeafFault view.now.cells fault) }
@@ -103,6 +105,8 @@ pub(crate) fn walk<G: Pages>(
     birth: u64,
 ) -> Result<Option<Quad>, PairFault>
     ensures walks { Walks (IsFound aim (record { key = key.now; birth = birth })) (G.state pages.old) (G.state pages.new) view.now result }
+    ensures met { IfOk result (λ found.
+        FindsFrom aim (record { key = key.now; birth = birth }) (G.state pages.new) view.now found) }
     ensures record_fits { IfOk result (λ found. IfSome found (λ q. IsRecord q)) }
 {
     let level = view.level();

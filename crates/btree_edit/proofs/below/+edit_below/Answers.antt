@@ -67,6 +67,7 @@ returns-in-Ok-put_two g t c =
       goes = done.goes_on;
       stays = done.answer.0;
       parts = done.answer.1;
+      finds = done.finds;
       puts = c.in-Ok-put_two.ensures;
       sound = g.met.G.Pages.sound c.args.pages.now;
       asked = c.requires.store;

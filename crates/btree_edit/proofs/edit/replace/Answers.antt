@@ -14,7 +14,7 @@ pub returns-clause-root : goal.returns-clause-root
 returns-clause-root g c = put_grows _ _ _ _ c.put.result c.put.ensures
 
 pub returns-clause-root_stays : goal.returns-clause-root_stays
-returns-clause-root_stays g c = put_stays c.args.q.now _ c.args.store _ _ c.put.result c.put.ensures (λ h. h) (λ h. h)
+returns-clause-root_stays g c = put_stays _ _ _ _ c.put.result c.put.ensures
 
 pub returns-clause-fault : goal.returns-clause-fault
 returns-clause-fault g c = put_faults _ _ _ _ c.put.result c.put.ensures

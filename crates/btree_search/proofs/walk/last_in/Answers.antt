@@ -1,4 +1,4 @@
-use Rattle.std.proofs.Common.{◌-◌, refl, arith}
+use Rattle.std.proofs.Common.{◌-◌, refl}
 use Rattle.btree_search.proofs.Leaves.{no_leaf_cell, record_limits}
 use Rattle.btree_search.proofs.walk.last_in.Goals as goal
 

@@ -37,7 +37,7 @@ invariant_of-result c =
     let within : c.index.new.cursor.place ≤ length c.index.new.cursor.text = omega (arith, c.place-end.ensures.place, c.place-end.ensures.within) in
     indexed_so c.args.p.now c.in-Ok.head.0 c.in-Ok.head.1 c.in-Ok-index.places c.head.new.cursor c.index.new.cursor h.cut
     c.in-Ok-index.ensures.text within (sym c.place-end.ensures.place ∙ c.if-end-p.false) h.read table
-    (λ e. (page_found c.args.p.now _ (λ i. omega (arith, c.type_inv.p i)) e).rules)
+    (λ e. (page_found c.args.p.now _ (λ i. omega (arith, c.type_inv.p i)) e))
 
 pub returns : goal.returns
 returns c =
