@@ -18,3 +18,6 @@ pub mod Replacing
 pub mod Moved
 pub mod Joined
 pub mod Present
+pub mod Staying
+pub mod Listed
+pub mod Whole

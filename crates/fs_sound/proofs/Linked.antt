@@ -42,7 +42,7 @@ pub record IsLinking (t : Tree) (name : List ℕ) (plan : LinkPlan) : Type 0 whe
   pub kind : is_directory directory.inode.kind ≡ true
   pub free : named name directory.names ≡ None
 
-link_ok : (t : Tree) (cred : Cred) (a : LinkArgs (List ℕ)) (plan : LinkPlan) → link_plan t cred a ≡ Ok plan
+pub link_ok : (t : Tree) (cred : Cred) (a : LinkArgs (List ℕ)) (plan : LinkPlan) → link_plan t cred a ≡ Ok plan
     → IsLinking t a.link.name plan
 unfolding link_plan
 link_ok t cred a plan e =

@@ -31,15 +31,15 @@ use Rattle.fs_sound.proofs.Up.{LeadsPast, past_climb}
 -- ---- what is known once the checks have passed
 
 -- both directories stand, the old name leads to the node, and what has the new name is the target
-record AreFound (t : Tree) (a : RenameArgs (List ℕ)) (r : Renaming) : Type 0 where
-  from : IsLiveDirectory t r.from
-  to : IsLiveDirectory t r.to
-  entry : NameEntry
-  old : entry_at t r.from.place a.from.name ≡ Some entry
-  source : LeadsTo t entry.fileid r.source
-  target : r.target ≡ target_at t (entry_at t r.to.place a.to.name)
+pub record AreFound (t : Tree) (a : RenameArgs (List ℕ)) (r : Renaming) : Type 0 where
+  pub from : IsLiveDirectory t r.from
+  pub to : IsLiveDirectory t r.to
+  pub entry : NameEntry
+  pub old : entry_at t r.from.place a.from.name ≡ Some entry
+  pub source : LeadsTo t entry.fileid r.source
+  pub target : r.target ≡ target_at t (entry_at t r.to.place a.to.name)
 
-found : (t : Tree) (cred : Cred) (a : RenameArgs (List ℕ)) (r : Renaming) → find_renaming t cred a ≡ Ok r → AreFound t a r
+pub found : (t : Tree) (cred : Cred) (a : RenameArgs (List ℕ)) (r : Renaming) → find_renaming t cred a ≡ Ok r → AreFound t a r
 unfolding find_renaming
 found t cred a r e =
     next_of (find_object t a.from.directory) _ r e (λ from one e.
@@ -71,9 +71,9 @@ found t cred a r e =
     })))))))))))))))
 
 -- it has room, and nothing is in its way
-record CanGo (t : Tree) (r : Renaming) : Type 0 where
-  way : reparents r ≡ true → climb t.nodes (fileid_at r.source.place) (deepest + 1) (fileid_at r.to.place) ≡ Root
-  clear : given r.target (is_in_the_way t r.source) ≡ false
+pub record CanGo (t : Tree) (r : Renaming) : Type 0 where
+  pub way : reparents r ≡ true → climb t.nodes (fileid_at r.source.place) (deepest + 1) (fileid_at r.to.place) ≡ Root
+  pub clear : given r.target (is_in_the_way t r.source) ≡ false
 
 allowed : (way : Climb) (u : Unit {0}) → allow_move way ≡ Ok u → way ≡ Root
 allowed TooDeep u e = absurd cc
@@ -84,7 +84,7 @@ way_ok : (b : Bool) (way : Climb) (u : Unit {0}) → (if b then allow_move way e
 way_ok true way u e is = allowed way u e
 way_ok false way u e is = absurd cc
 
-can_go : (t : Tree) (r : Renaming) (u : Unit {0}) → need_room t r ≡ Ok u → CanGo t r
+pub can_go : (t : Tree) (r : Renaming) (u : Unit {0}) → need_room t r ≡ Ok u → CanGo t r
 unfolding need_room
 can_go t r u e =
     let up = climb t.nodes (fileid_at r.source.place) (deepest + 1) (fileid_at r.to.place) in

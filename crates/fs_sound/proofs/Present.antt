@@ -16,7 +16,7 @@ use Rattle.fs_laws.proofs.Shaped.{find_has}
 use Rattle.fs_sound.proofs.Counts.{named_has}
 use Rattle.fs_sound.proofs.Facts.{names_are}
 
-some_object : (place : Place) (o : Option Node) → is_some o ≡ true → is_some (option_map (object_by place) o) ≡ true
+pub some_object : (place : Place) (o : Option Node) → is_some o ≡ true → is_some (option_map (object_by place) o) ≡ true
 some_object place (Some n) e = refl
 some_object place None e = absurd cc
 
@@ -58,11 +58,11 @@ numbered name [] e h = absurd cc
 numbered name (s ∷ snapshots) e h =
     number_by name s snapshots e (has_name name (snapshot_entry s)) h (numbered name snapshots e) (s.number == e.fileid) refl
 
-root_there : (o : Option Node) → IsRoot o → is_some o ≡ true
+pub root_there : (o : Option Node) → IsRoot o → is_some o ≡ true
 root_there (Some n) h = refl
 root_there None h = absurd h
 
-kept_root : (s : Option Snapshot) → is_some s ≡ true → IfSome s (λ s. HangTogether s.nodes) → is_some (node_in s 1) ≡ true
+pub kept_root : (s : Option Snapshot) → is_some s ≡ true → IfSome s (λ s. HangTogether s.nodes) → is_some (node_in s 1) ≡ true
 kept_root (Some s) e h = root_there (s.nodes 1) h.root
 kept_root None e h = absurd cc
 

@@ -326,13 +326,13 @@ without_lacks name dn = free_of (has_name name) dn.names
 -- ---- the calls
 
 -- what may be taken away
-record MayGo (t : Tree) (d : ℕ) (n : Node) (name : List ℕ) (o : Object) : Type 0 where
-  entry : NameEntry
-  node : Node
-  removable : Removable t d name entry n node
-  live : IsLive t entry.fileid node o
+pub record MayGo (t : Tree) (d : ℕ) (n : Node) (name : List ℕ) (o : Object) : Type 0 where
+  pub entry : NameEntry
+  pub node : Node
+  pub removable : Removable t d name entry n node
+  pub live : IsLive t entry.fileid node o
 
-may_go : (t : Tree) (cred : Cred) (d : Object) (name : List ℕ) (o : Object) (l : IsLiveDirectory t d)
+pub may_go : (t : Tree) (cred : Cred) (d : Object) (name : List ℕ) (o : Object) (l : IsLiveDirectory t d)
     → find_removable t cred d name ≡ Ok o
     → MayGo t l.node.fileid l.node.node name o
 unfolding find_removable
@@ -373,7 +373,7 @@ remove_hangs t cred a now s = done_has (λ (x : Tree). HangTogether x.nodes) t (
     (λ plan e. remove_plan_hangs t cred a now plan (bounds_within t s.bounds) s.live e)
 
 -- an empty list has no length
-empty_by : (names : List NameEntry) → nat_lt 0 (length names) ≡ false → names ≡ []
+pub empty_by : (names : List NameEntry) → nat_lt 0 (length names) ≡ false → names ≡ []
 empty_by [] e = refl
 empty_by (x ∷ names) e = absurd (omega (arith, ltb-false 0 (length (x ∷ names)) e))
 

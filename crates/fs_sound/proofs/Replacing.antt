@@ -102,13 +102,13 @@ record NameGone (t after : Tree) (g : ℕ) (to : List ℕ) (n : Node) (x : ℕ) 
   parent : n.inode.parent ≡ node.inode.parent
   others : (q : ℕ) → (q ≡ g → ⊥) → (q ≡ x → ⊥) → after.nodes q ≡ t.nodes q
 
-some_named : (nodes : Nodes) (d : ℕ) (n : Node) (name : List ℕ) (e : NameEntry) → HangTogether nodes → nodes d ≡ Some n
+pub some_named : (nodes : Nodes) (d : ℕ) (n : Node) (name : List ℕ) (e : NameEntry) → HangTogether nodes → nodes d ≡ Some n
     → named name n.names ≡ Some e → 1 ≤ count_in (nodes d) e.fileid
 some_named nodes d n name e h is found =
     omega (arith, names_in_some (nodes d) e.fileid n is, count_found name n e (names_are nodes d n h is).distinct found)
 
 -- what has no names is no directory with one
-nameless : (nodes : Nodes) (d x id : ℕ) (n : Node) → nodes x ≡ Some n → n.names ≡ [] → 1 ≤ count_in (nodes d) id → d ≡ x → ⊥
+pub nameless : (nodes : Nodes) (d x id : ℕ) (n : Node) → nodes x ≡ Some n → n.names ≡ [] → 1 ≤ count_in (nodes d) id → d ≡ x → ⊥
 nameless nodes d x id n is empty some same =
     let none : count_in (nodes d) id ≡ 0 =
     ap (λ (k : ℕ). count_in (nodes k) id) same ∙ names_in_some (nodes x) id n is ∙ ap (count_of id) empty ∙ count_nil id in
@@ -127,9 +127,9 @@ empty_list : (names : List NameEntry) → length names ≤ 0 → names ≡ []
 empty_list [] le = refl
 empty_list (e ∷ names) le = absurd (omega arith)
 
-empty_by : (dir : Bool) (names : List NameEntry) → dir ≡ true → (dir && nat_lt 0 (length names)) ≡ false → names ≡ []
-empty_by true names is h = empty_list names (ltb-false 0 (length names) h)
-empty_by false names is h = absurd cc
+pub empty_of : (dir : Bool) (names : List NameEntry) → dir ≡ true → (dir && nat_lt 0 (length names)) ≡ false → names ≡ []
+empty_of true names is h = empty_list names (ltb-false 0 (length names) h)
+empty_of false names is h = absurd cc
 
 -- a directory with a name that is found
 record Naming (nodes : Nodes) (d : ℕ) (name : List ℕ) (e : NameEntry) : Type 0 where
@@ -288,7 +288,7 @@ module _ (t : Tree) (k : IsSound t) (from to : List ℕ) (f g s : LiveNode) (e :
         → HangTogether (moved_by changes_parent now from to f.fileid g.fileid s.fileid
         (without_node dir now g.fileid to y.fileid t)).nodes
     replaced_hangs y n had at far clear true dir =
-        let empty : n.names ≡ [] = empty_by (is_directory n.inode.kind) n.names dir clear in
+        let empty : n.names ≡ [] = empty_of (is_directory n.inode.kind) n.names dir clear in
         let r : Removable t g.fileid to y g.node n = record { directory = lands.is; found = had; there = at } in
         let no_g : g.fileid ≡ y.fileid → ⊥ = second_gone y n had at empty in
         hangs_on (drop_directory now g.fileid to y.fileid t) y n had at empty far

@@ -6,8 +6,9 @@ ghost use Rattle.fs_rules.specs.declared.place.Place.{Place};
 ghost use Rattle.fs_rules.specs.Places.{beside, entry_at, leads_to};
 ghost use Rattle.nfs3_types.specs.declared.moment.Moment.{Moment};
 ghost use Rattle.fs_rules.specs.Sound.{IsSound};
-ghost use Rattle.fs_rules.specs.Answers.{Asked, after};
+ghost use Rattle.fs_rules.specs.Answers.{Asked, after, answer};
 ghost use Rattle.fs_rules.specs.Tree.{Tree, first_tree};
+ghost use Rattle.fs_sound.specs.Whole.{IsWhole};
 
 use fs_laws::{calls_keep_bounds, first_tree_has_bounds};
 
@@ -31,4 +32,11 @@ pub fn calls_keep_trees_sound()
 pub fn names_lead_to_nodes()
     ensures { (t : Tree) (place : Place) (name : List ℕ) (e : NameEntry) → IsSound t →
         entry_at t place name ≡ Some e → is_some (leads_to t (beside place e)) ≡ true }
+{}
+
+/// On a sound tree no reply leaves out what its procedure lets it leave out: attributes, attributes before a
+/// change, handles.
+#[tactic(auto, using(crate::proofs::Whole::answer_whole))]
+pub fn replies_leave_nothing_out()
+    ensures { (t : Tree) (a : Asked) → IsSound t → IsWhole (answer t a).body }
 {}
