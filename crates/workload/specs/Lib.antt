@@ -1,0 +1,6 @@
+pub mod Draws
+pub mod Calls
+pub mod Drive
+pub mod Driving
+pub mod Rough
+pub mod Lines
