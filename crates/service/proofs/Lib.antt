@@ -4,7 +4,6 @@ pub mod TakenSteps
 pub mod AnswerSteps
 pub mod PutSteps
 pub mod SessionSteps
-pub mod OneWord
 pub mod CallerWords
 pub mod Shapes
 pub mod ServedSteps

@@ -1,5 +1,5 @@
 -- A run ends by the bytes that it read, but for what is apart from them.
-use Rattle.std.proofs.Common.{◌≡◌, ◌^◌, ℕ, List, String, refl, sym, ◌∙◌, ap, subst, ◌↔◌, ◌⊎◌, inl, inr, arith}
+use Rattle.std.proofs.Common.{◌≡◌, ◌^◌, ℕ, List, String, true≢false, refl, sym, ◌∙◌, ap, subst, ◌⊎◌, inl, inr, arith}
 use Rattle.std.specs.declared.alloc.Global.{Global}
 use Rattle.nfs3_types.specs.Count.{Rose, RoseBy}
 use Rattle.outside.specs.Seen.{StreamsTold, Streams}
@@ -14,10 +14,6 @@ use Rattle.service.specs.Session.{IsByText}
 use Rattle.service.specs.Served.{fsid}
 use Rattle.service.specs.Run.{IsFeed, Feeds, Outcome, IsApart, EndsByText, status_of}
 use Rattle.service.proofs.Readings.{follows-by_text}
-
--- an end that is not for the words
-no_usage : (end : RunEnd) (status : ℕ) → end ≡ Usage → (end ≡ Usage → ⊥) → status ≡ 1
-no_usage end status e not = absurd (not e)
 
 module _ {S C K : Type 0} (told : StreamsTold S C K) (words : List (String Global)) (before now : Streams S C K) where
   -- the text alone ended the session
@@ -50,7 +46,7 @@ module _ {S C K : Type 0} (told : StreamsTold S C K) (words : List (String Globa
       → (Rose (told.source.faults before.source) (told.source.faults now.source) → ⊥)
       → (Rose (told.sink.faults before.sink) (told.sink.faults now.sink) → ⊥)
       → (status ≡ 7) ⊎ (status ≡ 8) ⊎ EndsByText told.source before.source now.source status
-  complete Usage status is o feed read write = absurd (o.usage.0 refl feed)
+  complete Usage status is o feed read write = absurd (true≢false (sym feed ∙ o.says))
   complete (Session ReadFault) status is o feed read write = absurd (read (o.did.session.ended.read_fault refl))
   complete (Session WriteFault) status is o feed read write = absurd (write (o.did.session.ended.write_fault refl))
   complete NoMemory status is o feed read write = inl is
@@ -112,21 +108,20 @@ module _ {S C K : Type 0} (told : StreamsTold S C K) (words : List (String Globa
       o.did.session in subst (λ (k : ℕ). RoseBy k (told.source.takes before.source) (told.source.takes now.source))
       (s.ended.many refl) s.gave.counted.rose
 
-  pub usage-is : (end : RunEnd) (status : ℕ) → status ≡ status_of end → Outcome told words before now end
-      → (status ≡ 1) ↔ (IsFeed words → ⊥)
-  usage-is Usage status is o = (λ e. o.usage.0 refl, λ h. is)
-  usage-is NoMemory status is o = (λ e. absurd (omega (arith, is, e)), λ h. no_usage NoMemory status (o.usage.1 h) (λ e. cc))
-  usage-is (Session Done) status is o =
-      (λ e. absurd (omega (arith, is, e)), λ h. no_usage (Session Done) status (o.usage.1 h) (λ e. cc))
-  usage-is (Session ReadFault) status is o =
-      (λ e. absurd (omega (arith, is, e)), λ h. no_usage (Session ReadFault) status (o.usage.1 h) (λ e. cc))
-  usage-is (Session WriteFault) status is o =
-      (λ e. absurd (omega (arith, is, e)), λ h. no_usage (Session WriteFault) status (o.usage.1 h) (λ e. cc))
-  usage-is (Session CutRecord) status is o =
-      (λ e. absurd (omega (arith, is, e)), λ h. no_usage (Session CutRecord) status (o.usage.1 h) (λ e. cc))
-  usage-is (Session TooLong) status is o =
-      (λ e. absurd (omega (arith, is, e)), λ h. no_usage (Session TooLong) status (o.usage.1 h) (λ e. cc))
-  usage-is (Session BadRecord) status is o =
-      (λ e. absurd (omega (arith, is, e)), λ h. no_usage (Session BadRecord) status (o.usage.1 h) (λ e. cc))
-  usage-is (Session ManyReads) status is o =
-      (λ e. absurd (omega (arith, is, e)), λ h. no_usage (Session ManyReads) status (o.usage.1 h) (λ e. cc))
+  pub usage-not : (end : RunEnd) (status : ℕ) → status ≡ status_of end → Outcome told words before now end → status ≡ 1
+      → IsFeed words → ⊥
+  usage-not Usage status is o e feed = true≢false (sym feed ∙ o.says)
+  usage-not NoMemory status is o e feed = absurd (omega (arith, is, e))
+  usage-not (Session Done) status is o e feed = absurd (omega (arith, is, e))
+  usage-not (Session ReadFault) status is o e feed = absurd (omega (arith, is, e))
+  usage-not (Session WriteFault) status is o e feed = absurd (omega (arith, is, e))
+  usage-not (Session CutRecord) status is o e feed = absurd (omega (arith, is, e))
+  usage-not (Session TooLong) status is o e feed = absurd (omega (arith, is, e))
+  usage-not (Session BadRecord) status is o e feed = absurd (omega (arith, is, e))
+  usage-not (Session ManyReads) status is o e feed = absurd (omega (arith, is, e))
+
+  pub refused : (end : RunEnd) (status : ℕ) → status ≡ status_of end → Outcome told words before now end
+      → (IsFeed words → ⊥) → (status ≡ 1) ⊎ (status ≡ 7)
+  refused Usage status is o h = inl is
+  refused NoMemory status is o h = inr is
+  refused (Session end) status is o h = absurd (h o.says)

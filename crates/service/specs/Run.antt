@@ -1,5 +1,6 @@
 -- What a run does, by its words, its exit status and the line that it tells.
-use Rattle.std.specs.Prelude.{◌≡◌, ◌↔◌, ℕ, ◌≤◌, List, [], ◌∷◌, ◌++◌, map, codes, String, ◌⊎◌}
+use Rattle.std.specs.Prelude.{◌≡◌, ℕ, ◌≤◌, nat_le, ◌&&◌, Bool, true, false, List, [], ◌∷◌, ◌++◌, length, map, codes}
+use Rattle.std.specs.Prelude.{Option, Some, String, ◌⊎◌, ⊤}
 use Rattle.std.specs.String.{string_bytes}
 use Rattle.std.specs.declared.alloc.Global.{Global}
 use Rattle.nfs3_types.specs.declared.moment.Moment.{Moment}
@@ -13,14 +14,24 @@ use Rattle.service.specs.declared.session.SessionEnd.TheVariants.{ManyReads}
 use Rattle.service.specs.declared.command.RunEnd.{RunEnd}
 use Rattle.service.specs.declared.command.RunEnd.TheVariants.{Usage, NoMemory, Session}
 use Rattle.fs_rules.specs.Tree.{Tree}
+use Rattle.fss_words.specs.Commands.{meaning}
+use Rattle.fss_words.specs.declared.wanted.Wanted.{Wanted}
+use Rattle.fss_words.specs.declared.wanted.Wanted.TheVariants.{Feed}
 use Rattle.service.specs.Turns.{no_reply}
 use Rattle.service.specs.Course.{course}
 use Rattle.service.specs.Session.{IsFront, SessionTold, SessionAt, SessionRuns, desk, desk_told, session_at, session_told}
 use Rattle.service.specs.Served.{fsid, answering, made_at}
 
--- the words are the one word `feed`
+abbrev pub means_feed : Option Wanted → Bool
+means_feed (Some (Feed stores replicas)) = true
+means_feed wanted = false
+
+-- the words ask for `feed`, without a shape of stores: it serves none yet
+abbrev pub means_plain_feed : List (String Global) → Bool
+means_plain_feed words = means_feed (meaning (map string_bytes words)) && nat_le (length words) 2
+
 abbrev pub IsFeed : List (String Global) → Type 0
-IsFeed words = map string_bytes words ≡ codes "feed" ∷ []
+IsFeed words = means_plain_feed words ≡ true
 
 abbrev pub status_of : RunEnd → ℕ
 status_of (Session Done) = 0
@@ -81,10 +92,15 @@ Did told before now (Session end) = Feeds told before now end
 Did told before now Usage = now ≡ before
 Did told before now NoMemory = now ≡ before
 
--- the words are the command but where the end says that they are not
+-- what the end says of the words: want of memory may come before they are read
+abbrev pub Says : RunEnd → List (String Global) → Type 0
+Says Usage words = means_plain_feed words ≡ false
+Says (Session end) words = IsFeed words
+Says NoMemory words = ⊤
+
 pub record Outcome {S C K : Type 0} (told : StreamsTold S C K) (words : List (String Global)) (before now : Streams S C K)
     (end : RunEnd) : Type 0 where
-  pub usage : (end ≡ Usage) ↔ ¬ IsFeed words
+  pub says : Says end words
   pub did : Did told before now end
 
 -- A run: it ended in one way, which its status and the line on the error sink say.

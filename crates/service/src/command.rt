@@ -1,6 +1,6 @@
 //! The top call.
 
-ghost use Rattle.std.specs.Prelude.{◌≡◌, ◌↔◌, ◌⊎◌, ◌^◌, IfOk, OnErr};
+ghost use Rattle.std.specs.Prelude.{◌≡◌, ◌⊎◌, ◌^◌, IfOk, OnErr};
 ghost use Rattle.nfs3_types.specs.Count.{Rose, RoseBy};
 ghost use Rattle.outside.specs.Seen.{outside, seen, streams, streams_told};
 ghost use Rattle.service.specs.Run.{EndsByText, Feeds, GotLine, IsApart, IsFeed, Outcome, Runs, line_of, status_of};
@@ -9,7 +9,7 @@ use crate::put_all::put_all;
 use crate::room::Room;
 use crate::served_tree::{FSID, ServedTree};
 use crate::session::{SessionEnd, session};
-use crate::words::is_feed;
+use crate::words::is_plain_feed;
 use mount3::Exports;
 use outside::{Clock, NoMemory, Sink, Source, Weather};
 use std::alloc::Global;
@@ -19,7 +19,7 @@ use std::alloc::Global;
 pub enum RunEnd {
     /// The words are no command.
     Usage,
-    /// Memory ran out before the first take.
+    /// Memory ran out before the first take, also for reading the words.
     NoMemory,
     /// The session ended so.
     Session(SessionEnd),
@@ -106,17 +106,18 @@ fn run_command<S: Source, C: Clock, K: Sink>(
     ensures { Outcome (streams_told S.told C.told K.told) words.now
         (streams input.old clock.old output.old) (streams input.new clock.new output.new) result }
 {
-    if !is_feed(words) {
-        return RunEnd::Usage;
-    }
-    match feed(alloc, input, clock, output) {
-        Ok(end) => RunEnd::Session(end),
+    match is_plain_feed(alloc, words) {
+        Ok(true) => match feed(alloc, input, clock, output) {
+            Ok(end) => RunEnd::Session(end),
+            Err(NoMemory) => RunEnd::NoMemory,
+        },
+        Ok(false) => RunEnd::Usage,
         Err(NoMemory) => RunEnd::NoMemory,
     }
 }
 
-/// Runs the command that the words are, and answers its exit status. Of commands there is `feed`:
-/// it answers the records of the input in order, on the output. A line on the error sink says why it
+/// Runs the command that the words are, and answers its exit status. Of commands there is `feed`,
+/// without a shape of stores: it answers the records of the input in order, on the output. A line on the error sink says why it
 /// ended, where that is not the end of the input between two records.
 pub fn run<S: Source, K: Sink, E: Sink, C: Clock, W: Weather>(
     alloc: Global,
@@ -136,7 +137,8 @@ pub fn run<S: Source, K: Sink, E: Sink, C: Clock, W: Weather>(
         → ¬ Rose (S.told.faults input.old) (S.told.faults input.new)
         → ¬ Rose (K.told.faults output.old) (K.told.faults output.new)
         → (result ≡ 7) ⊎ (result ≡ 8) ⊎ EndsByText S.told input.old input.new result }
-    ensures usage { (result ≡ 1) ↔ ¬ IsFeed words.now }
+    ensures usage { result ≡ 1 → ¬ IsFeed words.now }
+    ensures refused { ¬ IsFeed words.now → (result ≡ 1) ⊎ (result ≡ 7) }
     ensures read_fault { result ≡ 2 → Rose (S.told.faults input.old) (S.told.faults input.new) }
     ensures write_fault { result ≡ 3 → Rose (K.told.faults output.old) (K.told.faults output.new) }
     ensures no_memory { result ≡ 7

@@ -1,6 +1,6 @@
 use Rattle.outside.specs.Seen.{streams, streams_told}
-use Rattle.service.proofs.RunSteps.{apart-or_by_text, complete, many-took, no_memory-same, read_fault-rose, usage-is}
-use Rattle.service.proofs.RunSteps.{write_fault-rose}
+use Rattle.service.proofs.RunSteps.{apart-or_by_text, complete, many-took, no_memory-same, read_fault-rose, refused}
+use Rattle.service.proofs.RunSteps.{usage-not, write_fault-rose}
 use Rattle.service.proofs.command.run.Goals as goal
 
 pub returns-clause-by_text : goal.returns-clause-by_text
@@ -19,7 +19,14 @@ returns-clause-complete g c feed read write =
 
 pub returns-clause-usage : goal.returns-clause-usage
 returns-clause-usage g c =
-    usage-is (streams_told g.S.Source.told g.C.Clock.told g.K.Sink.told) c.args.words.now
+    usage-not (streams_told g.S.Source.told g.C.Clock.told g.K.Sink.told) c.args.words.now
+    (streams c.args.input.now c.args.clock.now c.args.output.now) (streams c.run_command-end.new.input
+    c.run_command-end.new.clock c.run_command-end.new.output)
+    c.run_command-end.result c.status.result c.status.ensures c.run_command-end.ensures
+
+pub returns-clause-refused : goal.returns-clause-refused
+returns-clause-refused g c =
+    refused (streams_told g.S.Source.told g.C.Clock.told g.K.Sink.told) c.args.words.now
     (streams c.args.input.now c.args.clock.now c.args.output.now) (streams c.run_command-end.new.input
     c.run_command-end.new.clock c.run_command-end.new.output)
     c.run_command-end.result c.status.result c.status.ensures c.run_command-end.ensures
