@@ -4,7 +4,8 @@
     crates/conformance/vectors.py FOLDER
 
 The folder has `index.tsv`, with a row for each vector (name, words, status, bytes_in, bytes_out, note), and for each
-the input NAME.in and the output NAME.out. What is wanted is taken from these files alone, never from the program.
+the input NAME.in and the output NAME.out. What is wanted is taken from these files, and never from the program; the line
+on the error sink is the one that the README's table of statuses has. Words that are no command are listed below.
 Each vector is run at two sizes of a piece, since no answer depends on the pieces in which the input comes. Inputs that
 fit into one take are also taken a byte at a time, longer ones seven bytes at a time. The longest outputs are wanted
 once, at the small size, since what a program of the gate prints has to stay below a mebibyte.
@@ -32,6 +33,30 @@ FAULTS = {
 
 # The vectors whose input has to come whole in the first take.
 WHOLE = ["source-fails-at-second-take"]
+
+# The line on the error sink, by the status.
+USAGE = (
+    "fss: usage: fss feed [STORES REPLICAS] | fss work NUMBER CALLS [STORES REPLICAS LOST ROUGH]"
+    " | fss serve ADDRESS WORKERS CONNECTIONS STORES REPLICAS"
+)
+LINES = {
+    0: "",
+    1: USAGE,
+    2: "fss: input failed",
+    3: "fss: output failed",
+    4: "fss: input ended inside a record",
+    5: "fss: record too long",
+    6: "fss: bad record",
+}
+
+# Words that are no command, at which nothing is read.
+NO_COMMANDS = [
+    "", "help", "--help", "-h", "feed --help", "feed 4", "feed -1 3", "feed 4 3", "feed -- 4 3", "feed -- --", "-- feed",
+    "Feed", "feeds", "serve", "work 1 4", "work 1 +4", "work 1 16385", "serve 127.0.0.1:2049 1 1 4 3",
+]
+
+# Words of the command that there is, over empty input.
+COMMANDS = ["feed", "feed --"]
 
 # The most bytes of one take: as many as the service asks for, one for inputs up to that size, and seven for others.
 LARGE, ONE, FEW = 4096, 1, 7
@@ -72,8 +97,13 @@ def cases(folder, row):
         case = f"{name}/{cut}"
         yield (
             f"{case}\t{words}\t{cut}\t{takes}\t{puts}\t{content.hex()}\n",
-            f"{case}\t{status}\t{wanted.hex()}\n",
+            f"{case}\t{status}\t{wanted.hex()}\t{LINES[status]}\n",
         )
+
+
+def refused(words):
+    """The line of words that are no command, over an input of one record, and what has to be written."""
+    return f"words/{words}\t{words}\t{LARGE}\t\t\t80000000\n", f"words/{words}\t1\t\t{USAGE}\n"
 
 
 def main():
@@ -86,6 +116,8 @@ def main():
     for name in [*left_out, *FAULTS, *WHOLE]:
         check(name in names, f"the index has no {name}")
     lines = [line for row in rows if row["name"] not in left_out for line in cases(folder, row)]
+    lines += [refused(words) for words in NO_COMMANDS]
+    lines += [(f"words/{words}\t{words}\t{LARGE}\t\t\t\n", f"words/{words}\t0\t\t\n") for words in COMMANDS]
     crate = pathlib.Path(__file__).resolve().parent
     for file, column in [("stdin", 0), ("stdout", 1)]:
         (crate / file).write_text("".join(line[column] for line in lines), encoding="utf-8", newline="\n")

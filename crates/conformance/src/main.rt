@@ -1,9 +1,9 @@
 //! The program `conformance`: cases that other programs computed, run through the service's top call.
 //!
 //! It reads cases from its standard input, one on each line, runs `service::run` on each over sources,
-//! sinks and a clock in memory, and prints a line for each: the case's name, the exit status, and the
-//! bytes written, in hexadecimal. The gate compares these lines with what those programs computed. A
-//! line that is no case ends it with an error that names the line. It promises that it is safe and ends,
+//! sinks and a clock in memory, and prints a line for each: the case's name, the exit status, the bytes
+//! written, in hexadecimal, and the line on the error sink. The gate compares these lines with what those
+//! programs computed. A line that is no case ends it with an error that names the line. It promises that it is safe and ends,
 //! and that fields are read as they are spelled (`size`, `bytes`). It stands on `service` and `outside`.
 #![tactic(auto)]
 
@@ -19,7 +19,8 @@ fn answer(rt: &impl Print, alloc: Global, line: &str) -> Result<()> {
     let case = case::read(alloc, line)?;
     let played = play::play(alloc, case)?;
     let written = hex::encode(alloc, played.output.written())?;
-    println!(rt; "{}\t{}\t{written}", played.name, played.status)?;
+    let line = str::from_utf8(played.errors.written())?.trim_end();
+    println!(rt; "{}\t{}\t{written}\t{line}", played.name, played.status)?;
     Ok(())
 }
 
@@ -30,3 +31,6 @@ fn main(rt: HostRuntime) -> Result<()> {
     }
     Ok(())
 }
+
+#[cfg(test)]
+mod peers;

@@ -17,8 +17,10 @@ pub struct Played {
     pub name: String,
     /// The exit status.
     pub status: u8,
-    /// Where the service wrote.
+    /// Where the service wrote its replies.
     pub output: MemSink,
+    /// Where it said why it ended.
+    pub errors: MemSink,
 }
 
 /// The clock of every case.
@@ -49,5 +51,6 @@ pub fn play(alloc: Global, case: Case) -> Result<Played, AllocError> {
         name: case.name,
         status,
         output,
+        errors,
     })
 }
