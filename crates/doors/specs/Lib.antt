@@ -1,0 +1,3 @@
+pub mod Door
+pub mod ListDoor
+pub mod Tcp
