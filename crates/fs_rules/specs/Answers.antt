@@ -1,25 +1,14 @@
 -- The answer table: the reply to each call on each tree, and the tree after it (RFC 1813, section 3.3).
-use Rattle.std.specs.Prelude.{ℕ, Bool, true, false, not, Ok, Err}
-use Rattle.nfs3_types.specs.declared.body.Body.TheVariants.{Null as NullBody, Nothing}
+use Rattle.fs_rules.specs.Words.{ℕ, Bool, true, false, not, Ok, Err, NullBody, Nothing, Cred, Moment, Reply, StatusOk, NotSupp}
+use Rattle.fs_rules.specs.Words.{Call, procedure_of}
 use Rattle.nfs3_types.specs.declared.call.CallOver.TheVariants.{Null, GetAttr, SetAttr, Lookup, Access, ReadLink, Read, Write}
 use Rattle.nfs3_types.specs.declared.call.CallOver.TheVariants.{Create, Mkdir, Symlink, Mknod, Remove, Rmdir, Rename, Link}
 use Rattle.nfs3_types.specs.declared.call.CallOver.TheVariants.{ReadDir, ReadDirPlus, FsStat, FsInfo, PathConf, Commit}
-use Rattle.nfs3_types.specs.declared.cred.Cred.{Cred}
-use Rattle.nfs3_types.specs.declared.moment.Moment.{Moment}
-use Rattle.nfs3_types.specs.declared.reply.Reply.{Reply}
-use Rattle.nfs3_types.specs.declared.status.Status.TheVariants.{Ok as StatusOk, NotSupp}
-use Rattle.nfs3_types.specs.Calls.{Call, procedure_of}
-use Rattle.fs_rules.specs.Checks.{Row, told}
-use Rattle.fs_rules.specs.Listing.{read_dir, read_dir_plus}
-use Rattle.fs_rules.specs.Looking.{lookup}
-use Rattle.fs_rules.specs.Making.{create, symlink}
-use Rattle.fs_rules.specs.Removing.{remove}
-use Rattle.fs_rules.specs.Renaming.{link, rename}
-use Rattle.fs_rules.specs.Setting.{set_attr}
-use Rattle.fs_rules.specs.Snapshots.{mkdir, rmdir}
-use Rattle.fs_rules.specs.Telling.{access, fs_info, fs_stat, get_attr, path_conf, read_link}
-use Rattle.fs_rules.specs.Transfers.{commit, read, write}
-use Rattle.fs_rules.specs.Tree.{Tree}
+use Rattle.fs_rules.specs.Shared.{Row, told, Tree}
+use Rattle.fs_rules.specs.{Listing.read_dir, Listing.read_dir_plus, Looking.lookup, Making.create, Making.symlink}
+use Rattle.fs_rules.specs.{Removing.remove, Renaming.link, Renaming.rename, Setting.set_attr, Snapshots.mkdir, Snapshots.rmdir}
+use Rattle.fs_rules.specs.{Telling.access, Telling.fs_info, Telling.fs_stat, Telling.get_attr, Telling.path_conf}
+use Rattle.fs_rules.specs.{Telling.read_link, Transfers.commit, Transfers.read, Transfers.write}
 
 -- what of a call counts: who calls, what, at which moment, and the lane of the numbers of new files
 pub record Asked : Type 0 where

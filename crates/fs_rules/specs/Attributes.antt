@@ -1,21 +1,8 @@
 -- The attributes of nodes, and how they are set (RFC 1813, sections 2.6 and 3.3.2).
-use Rattle.std.specs.Prelude.{ℕ, ◌==◌, ◌%◌, nat_lt, Bool, true, false, ◌||◌, ◌&&◌, not, if◌then◌else◌, Option, Some}
-use Rattle.std.specs.Prelude.{None, unwrap_or, is_some, option_map}
-use Rattle.nfs3_types.specs.declared.attributes.Fattr.{Fattr}
-use Rattle.nfs3_types.specs.declared.attributes.Sattr.{Sattr}
-use Rattle.nfs3_types.specs.declared.attributes.SetTime.{SetTime}
-use Rattle.nfs3_types.specs.declared.attributes.SetTime.TheVariants.{DontChange, ServerTime, ClientTime}
-use Rattle.nfs3_types.specs.declared.attributes.Wcc.{Wcc}
-use Rattle.nfs3_types.specs.declared.attributes.WccAttr.{WccAttr}
-use Rattle.nfs3_types.specs.declared.cred.Cred.{Cred}
-use Rattle.nfs3_types.specs.declared.file_type.FileType.{FileType}
-use Rattle.nfs3_types.specs.declared.moment.Moment.{Moment}
-use Rattle.nfs3_types.specs.declared.status.Status.{Status}
-use Rattle.nfs3_types.specs.declared.status.Status.TheVariants.{Perm, Acces, Inval}
-use Rattle.nfs3_types.specs.FileTypes.{type_number}
-use Rattle.fs_rules.specs.Limits.{most_size}
-use Rattle.fs_rules.specs.Rights.{may, owns, is_in_group}
-use Rattle.fs_rules.specs.declared.inode.Inode.{Inode}
+use Rattle.fs_rules.specs.Words.{ℕ, ◌==◌, ◌%◌, nat_lt, Bool, true, false, ◌||◌, ◌&&◌, not, if◌then◌else◌, Option, Some, None}
+use Rattle.fs_rules.specs.Words.{unwrap_or, is_some, option_map, Fattr, Sattr, SetTime, DontChange, ServerTime, ClientTime, Wcc}
+use Rattle.fs_rules.specs.Words.{WccAttr, Cred, FileType, Moment, Status, Perm, Acces, Inval, type_number, Inode}
+use Rattle.fs_rules.specs.{Limits.most_size, Rights.may, Rights.owns, Rights.is_in_group}
 
 abbrev pub is_directory : FileType → Bool
 is_directory kind = type_number kind == 2
@@ -48,16 +35,11 @@ attributes_of fsid fileid i length = record {
   ctime = i.ctime;
 }
 
--- ---- what a caller may see of a change
-
 abbrev pub wcc_attr : Fattr → WccAttr
 wcc_attr a = record { size = a.size; mtime = a.mtime; ctime = a.ctime }
 
--- where there are attributes before, and after
 unfoldable pub wcc_of : Option Fattr → Option Fattr → Wcc
 wcc_of before after = record { before = option_map wcc_attr before; after = after }
-
--- ---- what may be set
 
 -- a value is given, and is so
 abbrev pub given : {A : Type 0} → Option A → (A → Bool) → Bool
@@ -72,11 +54,9 @@ abbrev pub is_server_time : SetTime → Bool
 is_server_time ServerTime = true
 is_server_time how = false
 
--- the size that is given is above the greatest
 abbrev pub is_too_large : Option ℕ → Bool
 is_too_large size = given size (λ size. nat_lt most_size size)
 
--- the caller is neither user 0 nor the owner, and may not write
 abbrev pub lacks_write : Cred → Fattr → Bool
 lacks_write cred a = not (owns cred a.uid || may cred a.mode a.uid a.gid 2)
 
@@ -89,9 +69,7 @@ abbrev pub regroups : Cred → Fattr → Option ℕ → Bool
 regroups cred a gid =
     given gid (λ gid. not (cred.uid == 0) && (not (cred.uid == a.uid) || not ((gid == a.gid) || is_in_group cred gid)))
 
--- Why the caller may not set these attributes, the first that fits: a size of what is no file; the mode by
--- another than the owner; an owner, or a group, that the caller may not give; the size without the right to write;
--- the caller's times by another than the owner; the server's without the right to write; a size above the greatest.
+-- why the caller may not set these attributes: the first that fits
 unfoldable pub sattr_fault : Cred → Fattr → Sattr → Option Status
 sattr_fault cred a s =
     if is_some s.size && not (is_file a.kind) then Some Inval
@@ -104,9 +82,6 @@ sattr_fault cred a s =
     else (if is_too_large s.size then Some Inval
     else None)))))))
 
--- ---- how they are set
-
--- a time that is set now, or stays
 abbrev pub time_by : SetTime → Moment → Moment → Moment
 time_by DontChange now old = old
 time_by ServerTime now old = now

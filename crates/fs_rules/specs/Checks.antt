@@ -1,18 +1,8 @@
 -- The checks that procedures share. A procedure's plan is its checks in order: the first that fails decides.
-use Rattle.std.specs.Prelude.{◌≡◌, ℕ, Bool, true, false, not, List, Option, Some, None, Result, Ok, Err}
-use Rattle.nfs3_types.specs.declared.args.DirOp.{DirOp}
-use Rattle.nfs3_types.specs.declared.body.Body.{Body}
-use Rattle.nfs3_types.specs.declared.cred.Cred.{Cred}
-use Rattle.nfs3_types.specs.declared.status.Status.{Status}
-use Rattle.nfs3_types.specs.declared.status.Status.TheVariants.{Acces, BadHandle, Stale, NotDir, Inval, Rofs}
-use Rattle.nfs3_types.specs.Handles.{handle_in}
-use Rattle.fs_rules.specs.declared.place.Place.{Place}
-use Rattle.fs_rules.specs.declared.place.Place.TheVariants.{Live}
-use Rattle.fs_rules.specs.Attributes.{is_directory, is_file}
-use Rattle.fs_rules.specs.Names.{name_fault}
-use Rattle.fs_rules.specs.Places.{Object, object_of}
-use Rattle.fs_rules.specs.Rights.{may_search}
-use Rattle.fs_rules.specs.Tree.{Tree}
+use Rattle.fs_rules.specs.Words.{◌≡◌, ℕ, Bool, true, false, not, List, Option, Some, None, Result, Ok, Err, DirOp, Body, Cred}
+use Rattle.fs_rules.specs.Words.{Status, Acces, BadHandle, Stale, NotDir, Inval, Rofs, handle_in, Place, Live}
+use Rattle.fs_rules.specs.{Attributes.is_directory, Attributes.is_file, Names.name_fault, Places.Object, Places.object_of}
+use Rattle.fs_rules.specs.{Rights.may_search, Tree.Tree}
 
 -- what was found, or the status of the refusal
 abbrev pub Check : Type 0 → Type 0
@@ -38,8 +28,6 @@ abbrev pub no_fault : Option Status → Check (Unit {0})
 no_fault (Some status) = Err status
 no_fault None = Ok tt
 
--- ---- a procedure's row of the answer table
-
 -- what a call that is not refused tells, and the tree after it
 pub record Done : Type 0 where
   pub body : Body
@@ -60,14 +48,11 @@ done check edit tell = do
   plan ← check
   Ok (record { body = tell plan (edit plan); tree = edit plan })
 
--- ---- what code gives for a check and for a row
-
 -- the result is the check's, seen so
 abbrev pub Gives : {A B : Type 0} → (A → B) → Check B → Result A Status → Type 0
 Gives view check (Ok a) = check ≡ Ok (view a)
 Gives view check (Err status) = check ≡ Err status
 
--- the call is refused with this status, and the tree is as it was
 pub record IsRefused (row : Row) (old new : Tree) (status : Status) : Type 0 where
   pub reply : row ≡ Err status
   pub same : new ≡ old
@@ -76,8 +61,6 @@ pub record IsRefused (row : Row) (old new : Tree) (status : Status) : Type 0 whe
 abbrev pub Does : Row → Tree → Tree → Result Body Status → Type 0
 Does row old new (Ok body) = row ≡ Ok (record { body = body; tree = new })
 Does row old new (Err status) = IsRefused row old new status
-
--- ---- the checks that come first, in this order
 
 -- a handle of another length than 24 is none of this service's, and one that names nothing is stale
 unfoldable pub find_object : Tree → List ℕ → Check Object
@@ -99,11 +82,8 @@ is_live place = false
 abbrev pub need_live : Object → Check (Unit {0})
 need_live o = need (is_live o.place) Rofs
 
--- an own name: not empty, without NUL and slash, and not too long
 abbrev pub need_good_name : List ℕ → Check (Unit {0})
 need_good_name name = no_fault (name_fault name)
-
--- ---- a live directory, and an own name for it
 
 unfoldable pub need_place_for : Object → List ℕ → Check (Unit {0})
 need_place_for o name = do

@@ -1,14 +1,8 @@
 -- Edits of trees, sound or not.
-use Rattle.std.specs.Prelude.{ℕ, ◌+◌, ◌-◌, ◌==◌, nat_lt, not, if◌then◌else◌, List, [], ◌∷◌, ◌++◌, length, take, drop}
-use Rattle.std.specs.Prelude.{replicate, slice_set, filter, Option, Some, None, option_map}
-use Rattle.nfs3_types.specs.declared.attributes.Fattr.{Fattr}
-use Rattle.nfs3_types.specs.declared.moment.Moment.{Moment}
-use Rattle.fs_rules.specs.Names.{has_name}
-use Rattle.fs_rules.specs.Tree.{Node, Nodes, Tree, next_fileid}
+use Rattle.fs_rules.specs.Words.{ℕ, ◌+◌, ◌-◌, ◌==◌, nat_lt, not, if◌then◌else◌, List, [], ◌∷◌, ◌++◌, length, take, drop}
+use Rattle.fs_rules.specs.Words.{replicate, slice_set, filter, Option, Some, None, option_map, Fattr, Moment}
+use Rattle.fs_rules.specs.{Names.has_name, Tree.Node, Tree.Nodes, Tree.Tree, Tree.next_fileid}
 
--- ---- of content
-
--- so many bytes of zero
 abbrev pub zeros : ℕ → List ℕ
 zeros n = replicate n 0
 
@@ -16,12 +10,9 @@ zeros n = replicate n 0
 unfoldable pub resized : ℕ → List ℕ → List ℕ
 resized size content = take size content ++ zeros (size - length content)
 
--- with these bytes at an offset: what stood before it, filled up with zeros to there; the bytes; and what
--- stands behind them
+-- with these bytes at an offset, to which zeros fill up what stood before it
 unfoldable pub written : ℕ → List ℕ → List ℕ → List ℕ
 written offset bytes content = resized offset content ++ (bytes ++ drop (offset + length bytes) content)
-
--- ---- of a node
 
 abbrev pub set_ctime : Moment → Node → Node
 set_ctime now n = record n { inode = record n.inode { ctime = now } }
@@ -39,30 +30,25 @@ drop_link n = record n { inode = record n.inode { nlink = n.inode.nlink - 1 } }
 abbrev pub set_parent : ℕ → Node → Node
 set_parent parent n = record n { inode = record n.inode { parent = parent } }
 
--- a size below the content's length is one cut more
 abbrev pub cuts_at : ℕ → Node → ℕ
 cuts_at size n = if nat_lt size (length n.content) then n.inode.cuts + 1 else n.inode.cuts
 
 unfoldable pub set_size : ℕ → Node → Node
 set_size size n = record n { inode = record n.inode { cuts = cuts_at size n }; content = resized size n.content }
 
--- the size, where one is given
 abbrev pub set_size_if : Option ℕ → Node → Node
 set_size_if (Some size) n = set_size size n
 set_size_if None n = n
 
--- what of these attributes can be set
 abbrev pub set_attributes : Fattr → Node → Node
 set_attributes a n = record n {
   inode = record n.inode { mode = a.mode; uid = a.uid; gid = a.gid; atime = a.atime; mtime = a.mtime; ctime = a.ctime };
 }
 
--- no byte changes nothing
 abbrev pub write_at : ℕ → List ℕ → Moment → Node → Node
 write_at offset bytes now n =
     if length bytes == 0 then n else touch now (record n { content = written offset bytes n.content })
 
--- a further name gets the directory's next cookie
 abbrev pub add_name : List ℕ → ℕ → Node → Node
 add_name name fileid n = record n {
   inode = record n.inode { next_cookie = n.inode.next_cookie + 1 };
@@ -71,8 +57,6 @@ add_name name fileid n = record n {
 
 abbrev pub drop_name : List ℕ → Node → Node
 drop_name name n = record n { names = filter (λ e. not (has_name name e)) n.names }
-
--- ---- of the live tree
 
 unfoldable pub with_node : ℕ → Option Node → Nodes → Nodes
 with_node fileid node nodes = λ id. if id == fileid then node else nodes id
@@ -86,6 +70,5 @@ add_node fileid n t = record t { nodes = with_node fileid (Some n) t.nodes }
 unfoldable pub drop_node : ℕ → Tree → Tree
 drop_node fileid t = record t { nodes = with_node fileid None t.nodes }
 
--- the lane gives its next number
 unfoldable pub give_number : ℕ → Tree → Tree
 give_number lane t = record t { next_fileids = slice_set t.next_fileids lane (next_fileid t lane + 16) }

@@ -1,3 +1,4 @@
+pub mod Words
 pub mod Tree
 pub mod Limits
 pub mod Names
@@ -6,6 +7,7 @@ pub mod Attributes
 pub mod Places
 pub mod Checks
 pub mod Edits
+pub mod Shared
 pub mod Telling
 pub mod Looking
 pub mod Setting

@@ -1,23 +1,10 @@
 -- READDIR and READDIRPLUS (RFC 1813, sections 3.3.16 and 3.3.17).
-use Rattle.std.specs.Prelude.{ℕ, ◌+◌, ◌-◌, ◌*◌, ◌/◌, ◌==◌, nat_le, nat_lt, Bool, ◌||◌, ◌&&◌, min, if◌then◌else◌, List, []}
-use Rattle.std.specs.Prelude.{◌∷◌, length, map, filter, replicate, bytes_eq, codes, Some, Ok}
-use Rattle.nfs3_types.specs.declared.args.ReadDirArgs.{ReadDirArgs}
-use Rattle.nfs3_types.specs.declared.args.ReadDirPlusArgs.{ReadDirPlusArgs}
-use Rattle.nfs3_types.specs.declared.body.Body.{Body}
-use Rattle.nfs3_types.specs.declared.body.Body.TheVariants.{ReadDir, ReadDirPlus}
-use Rattle.nfs3_types.specs.declared.body.DirEntry.{DirEntry}
-use Rattle.nfs3_types.specs.declared.body.DirEntryPlus.{DirEntryPlus}
-use Rattle.nfs3_types.specs.declared.cred.Cred.{Cred}
-use Rattle.nfs3_types.specs.declared.status.Status.TheVariants.{Acces, BadCookie, TooSmall}
-use Rattle.fs_rules.specs.declared.place.Place.{Place}
-use Rattle.fs_rules.specs.Checks.{Check, ◌>>=◌, find_object, need, need_directory, refuse_if}
-use Rattle.fs_rules.specs.Limits.{most_listing}
-use Rattle.fs_rules.specs.Places.{Object, above, attributes, beside, fileid_at, handle_at, names_at, shown}
-use Rattle.fs_rules.specs.Rights.{may_read}
-use Rattle.fs_rules.specs.declared.name_entry.NameEntry.{NameEntry}
-use Rattle.fs_rules.specs.Tree.{Tree}
+use Rattle.fs_rules.specs.Words.{ℕ, ◌+◌, ◌-◌, ◌*◌, ◌/◌, ◌==◌, nat_le, nat_lt, Bool, ◌||◌, ◌&&◌, min, if◌then◌else◌, List, [], ◌∷◌}
+use Rattle.fs_rules.specs.Words.{length, map, filter, replicate, bytes_eq, codes, Some, Ok, ReadDirArgs, ReadDirPlusArgs, Body}
+use Rattle.fs_rules.specs.Words.{ReadDir, ReadDirPlus, DirEntry, DirEntryPlus, Cred, Acces, BadCookie, TooSmall, Place, NameEntry}
+use Rattle.fs_rules.specs.Shared.{Check, ◌>>=◌, find_object, need, need_directory, refuse_if, most_listing, Object, above}
+use Rattle.fs_rules.specs.Shared.{attributes, beside, fileid_at, handle_at, names_at, shown, may_read, Tree}
 
--- a name that is listed, and where it leads
 pub record Listed : Type 0 where
   pub cookie : ℕ
   pub name : List ℕ
@@ -33,11 +20,8 @@ listing t o =
     ∷ record { cookie = 2; name = codes ".."; place = above o.place o.inode }
     ∷ map (listed o.place) (names_at t o.place)
 
--- what is listed behind a cookie
 abbrev pub behind : ℕ → List Listed → List Listed
 behind cookie entries = filter (λ e. nat_lt cookie e.cookie) entries
-
--- ---- how much is told at once
 
 -- a text's bytes with its padding
 abbrev pub padded : List ℕ → ℕ
@@ -51,8 +35,7 @@ entry_size e = 24 + padded e.name
 abbrev pub entry_plus_size : Listed → ℕ
 entry_plus_size e = 144 + padded e.name
 
--- what else a result says: the directory's attributes, the verifier, that no entry follows, and whether it is
--- the end
+-- what else a result says: the directory's attributes, the verifier, that no entry follows, whether it is the end
 abbrev pub bare_size : ℕ
 bare_size = 104
 
@@ -61,7 +44,6 @@ unfoldable pub fitting : (Listed → ℕ) → ℕ → List Listed → List Liste
 fitting size room [] = []
 fitting size room (e ∷ entries) = if nat_le (size e) room then e ∷ fitting size (room - size e) entries else []
 
--- the most bytes of a result
 abbrev pub limit : ℕ → ℕ
 limit count = min count most_listing
 
@@ -77,7 +59,6 @@ pub record Page : Type 0 where
   pub told : List Listed
   pub eof : Bool
 
--- of what is left of a directory's listing, as much as fits
 unfoldable pub page_of : Object → ℕ → List Listed → List Listed → Check Page
 page_of directory count left told = do
   _ ← refuse_if (is_too_small count left told) TooSmall
@@ -94,8 +75,6 @@ page t cred size a = do
   -- the verifier is always zeros
   _ ← need ((a.cookie == 0) || is_zeros a.verifier) BadCookie
   page_behind o size a.count (behind a.cookie (listing t o))
-
--- ---- the two procedures
 
 abbrev pub entry : Listed → DirEntry
 entry e = record { fileid = fileid_at e.place; name = e.name; cookie = e.cookie }

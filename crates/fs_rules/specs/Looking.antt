@@ -1,13 +1,7 @@
 -- LOOKUP (RFC 1813, section 3.3.3).
-use Rattle.std.specs.Prelude.{List, ℕ, Some, Ok}
-use Rattle.nfs3_types.specs.declared.args.DirOp.{DirOp}
-use Rattle.nfs3_types.specs.declared.body.Body.{Body}
-use Rattle.nfs3_types.specs.declared.body.Body.TheVariants.{Lookup}
-use Rattle.nfs3_types.specs.declared.cred.Cred.{Cred}
-use Rattle.nfs3_types.specs.declared.status.Status.TheVariants.{NoEnt}
-use Rattle.fs_rules.specs.Checks.{Check, ◌>>=◌, find_object, need_directory, need_good_name, need_search, some_or}
-use Rattle.fs_rules.specs.Places.{attributes, handle_at, leads_to, place_named}
-use Rattle.fs_rules.specs.Tree.{Tree}
+use Rattle.fs_rules.specs.Words.{List, ℕ, Some, Ok, DirOp, Body, Lookup, Cred, NoEnt}
+use Rattle.fs_rules.specs.Shared.{Check, ◌>>=◌, find_object, need_directory, need_good_name, need_search, some_or, attributes}
+use Rattle.fs_rules.specs.Shared.{handle_at, leads_to, place_named, Tree}
 
 unfoldable pub lookup : Tree → Cred → DirOp (List ℕ) → Check Body
 lookup t cred a = do

@@ -1,41 +1,16 @@
 -- CREATE and SYMLINK, and MKDIR outside of `.snapshot` (RFC 1813, sections 3.3.8 to 3.3.10).
-use Rattle.std.specs.Prelude.{ℕ, ◌%◌, ◌==◌, nat_le, Bool, true, false, ◌||◌, ◌&&◌, not, if◌then◌else◌, List, []}
-use Rattle.std.specs.Prelude.{bytes_eq, is_some, unwrap_or, Option, Some, None, Ok}
-use Rattle.nfs3_types.specs.declared.args.CreateArgs.{CreateArgs}
-use Rattle.nfs3_types.specs.declared.args.CreateHow.{CreateHow}
-use Rattle.nfs3_types.specs.declared.args.CreateHow.TheVariants.{Unchecked, Guarded, Exclusive}
-use Rattle.nfs3_types.specs.declared.args.MkdirArgs.{MkdirArgs}
-use Rattle.nfs3_types.specs.declared.args.SymlinkArgs.{SymlinkArgs}
-use Rattle.nfs3_types.specs.declared.attributes.Sattr.{Sattr}
-use Rattle.nfs3_types.specs.declared.attributes.SetTime.TheVariants.{DontChange}
-use Rattle.nfs3_types.specs.declared.body.Body.TheVariants.{Create, Mkdir, Symlink}
-use Rattle.nfs3_types.specs.declared.body.CreateOk.{CreateOk}
-use Rattle.nfs3_types.specs.declared.cred.Cred.{Cred}
-use Rattle.nfs3_types.specs.declared.file_type.FileType.{FileType}
-use Rattle.nfs3_types.specs.declared.file_type.FileType.TheVariants.{Reg, Dir, Lnk}
-use Rattle.nfs3_types.specs.declared.moment.Moment.{Moment}
-use Rattle.nfs3_types.specs.declared.status.Status.TheVariants.{Acces, Exist, Inval, MLink, NoSpc, Perm}
-use Rattle.fs_rules.specs.declared.inode.Inode.{Inode}
-use Rattle.fs_rules.specs.declared.name_entry.NameEntry.{NameEntry}
-use Rattle.fs_rules.specs.declared.place.Place.{Place}
-use Rattle.fs_rules.specs.declared.place.Place.TheVariants.{Live}
-use Rattle.fs_rules.specs.declared.plans.CreatePlan.{CreatePlan}
-use Rattle.fs_rules.specs.declared.plans.NewPlan.{NewPlan}
-use Rattle.fs_rules.specs.Attributes.{given, is_directory, is_file, is_too_large, time_by}
-use Rattle.fs_rules.specs.Checks.{Check, Row, ◌>>=◌, done, find_directory, need, need_place_for, need_search, no_fault}
-use Rattle.fs_rules.specs.Checks.{refuse_if, some_or}
-use Rattle.fs_rules.specs.Edits.{add_link, add_name, add_node, edit_node, give_number, set_size, touch, zeros}
-use Rattle.fs_rules.specs.Limits.{most_links, most_numbers}
-use Rattle.fs_rules.specs.Names.{is_dots, target_fault}
-use Rattle.fs_rules.specs.Places.{Object, change, entry_at, fileid_at, handle_at, is_snapshots_name, leads_to, shown}
-use Rattle.fs_rules.specs.Rights.{is_in_group, may_write}
-use Rattle.fs_rules.specs.Setting.{lacks_cuts}
-use Rattle.fs_rules.specs.Transfers.{may_fill}
-use Rattle.fs_rules.specs.Tree.{Node, Tree, next_fileid}
+use Rattle.fs_rules.specs.Words.{ℕ, ◌%◌, ◌==◌, nat_le, Bool, true, false, ◌||◌, ◌&&◌, not, if◌then◌else◌, List, [], bytes_eq}
+use Rattle.fs_rules.specs.Words.{is_some, unwrap_or, Option, Some, None, Ok, CreateArgs, CreateHow, Unchecked, Guarded, Exclusive}
+use Rattle.fs_rules.specs.Words.{MkdirArgs, SymlinkArgs, Sattr, DontChange, Create, Mkdir, Symlink, CreateOk, Cred, FileType, Reg}
+use Rattle.fs_rules.specs.Words.{Dir, Lnk, Moment, Acces, Exist, Inval, MLink, NoSpc, Perm, Inode, NameEntry, Place, Live}
+use Rattle.fs_rules.specs.Words.{CreatePlan, NewPlan}
+use Rattle.fs_rules.specs.Shared.{given, is_directory, is_file, is_too_large, time_by, Check, Row, ◌>>=◌, done, find_directory}
+use Rattle.fs_rules.specs.Shared.{need, need_place_for, need_search, no_fault, refuse_if, some_or, add_link, add_name, add_node}
+use Rattle.fs_rules.specs.Shared.{edit_node, give_number, set_size, touch, zeros, most_links, most_numbers, is_dots, target_fault}
+use Rattle.fs_rules.specs.Shared.{Object, change, entry_at, fileid_at, handle_at, is_snapshots_name, leads_to, shown, is_in_group}
+use Rattle.fs_rules.specs.Shared.{may_write, Node, Tree, next_fileid}
+use Rattle.fs_rules.specs.{Setting.lacks_cuts, Transfers.may_fill}
 
--- ---- a new node
-
--- what is to be made
 pub record Making : Type 0 where
   pub kind : FileType
   pub attributes : Sattr
@@ -55,14 +30,12 @@ is_of_others cred gid = not (cred.uid == 0) && given gid (λ gid. not (is_in_gro
 abbrev pub lacks_links : FileType → Inode → Bool
 lacks_links kind directory = is_directory kind && nat_le most_links directory.nlink
 
--- no number is left in the lane, and no cookie in the directory
 abbrev pub lacks_numbers : Tree → ℕ → Bool
 lacks_numbers t lane = nat_le most_numbers (next_fileid t lane)
 
 abbrev pub lacks_cookies : Inode → Bool
 lacks_cookies directory = nat_le most_numbers directory.next_cookie
 
--- a new node of this kind can be made in a directory, and there is a number for it
 unfoldable pub need_new_node : Tree → Cred → ℕ → Inode → FileType → Sattr → Check (Unit {0})
 need_new_node t cred lane directory kind s = do
   _ ← refuse_if (is_others cred s.uid) Perm
@@ -72,7 +45,6 @@ need_new_node t cred lane directory kind s = do
   _ ← refuse_if (lacks_numbers t lane) NoSpc
   refuse_if (lacks_cookies directory) NoSpc
 
--- a new node in the directory of this number
 unfoldable pub new_node : Cred → Moment → ℕ → Making → Node
 new_node cred now parent m = record {
   inode = record {
@@ -93,7 +65,6 @@ new_node cred now parent m = record {
   names = [];
 }
 
--- a directory has one more name, of a new node of this kind
 abbrev pub gain_name : FileType → List ℕ → ℕ → Moment → Node → Node
 gain_name kind name fileid now directory =
     touch now (add_name name fileid (if is_directory kind then add_link directory else directory))
@@ -103,15 +74,12 @@ make_node cred now lane p name m t =
     edit_node p.directory (gain_name m.kind name p.fileid now)
     (add_node p.fileid (new_node cred now p.directory m) (give_number lane t))
 
--- what is told of what was made
 unfoldable pub told_of_new : Tree → Tree → Place → Place → CreateOk
 told_of_new before after directory object = record {
   object = Some (handle_at after object);
   attributes = shown after object;
   directory = change before after directory;
 }
-
--- ---- a place for a new name
 
 -- a name that is there without an entry
 abbrev pub is_reserved : Object → List ℕ → Bool
@@ -120,7 +88,6 @@ is_reserved directory name = is_dots name || is_snapshots_name directory.place n
 abbrev pub is_taken : Tree → Object → List ℕ → Bool
 is_taken t directory name = is_reserved directory name || is_some (entry_at t directory.place name)
 
--- a name that is free, and a directory in which the caller may write
 unfoldable pub need_free_name : Tree → Cred → Object → List ℕ → Check (Unit {0})
 need_free_name t cred directory name = do
   _ ← refuse_if (is_taken t directory name) Exist
@@ -196,12 +163,10 @@ may_reuse (Unchecked s) file = true
 may_reuse (Guarded s) file = false
 may_reuse (Exclusive verifier) file = given file.verifier (λ own. bytes_eq own verifier)
 
--- the size that it is given
 abbrev pub size_over : CreateHow → Option ℕ
 size_over (Unchecked s) = s.size
 size_over how = None
 
--- where the name is there
 unfoldable pub reuse_plan : Tree → Cred → Object → NameEntry → CreateHow → Check CreatePlan
 reuse_plan t cred directory e how = do
   file ← some_or (leads_to t (Live e.fileid)) Exist
@@ -212,7 +177,6 @@ reuse_plan t cred directory e how = do
   _ ← refuse_if (lacks_cuts (size_over how) file) NoSpc
   Ok (record { directory = fileid_at directory.place; fileid = e.fileid; is_new = false; size = size_over how })
 
--- where it is not
 unfoldable pub new_plan : Tree → Cred → Object → CreateHow → ℕ → Check CreatePlan
 new_plan t cred directory how lane = do
   _ ← need (may_write cred directory.inode) Acces

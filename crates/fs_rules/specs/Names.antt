@@ -1,10 +1,7 @@
 -- Names in directories (RFC 1813, section 3.2: the server says which names it takes).
-use Rattle.std.specs.Prelude.{ℕ, ◌==◌, nat_lt, Bool, false, ◌||◌, if◌then◌else◌, List, [], ◌∷◌, length, codes, bytes_eq, find}
-use Rattle.std.specs.Prelude.{Option, Some, None}
-use Rattle.nfs3_types.specs.declared.status.Status.{Status}
-use Rattle.nfs3_types.specs.declared.status.Status.TheVariants.{Inval, NameTooLong}
-use Rattle.fs_rules.specs.Limits.{longest_name, longest_target}
-use Rattle.fs_rules.specs.declared.name_entry.NameEntry.{NameEntry}
+use Rattle.fs_rules.specs.Words.{ℕ, ◌==◌, nat_lt, Bool, false, ◌||◌, if◌then◌else◌, List, [], ◌∷◌, length, codes, bytes_eq, find}
+use Rattle.fs_rules.specs.Words.{Option, Some, None, Status, Inval, NameTooLong, NameEntry}
+use Rattle.fs_rules.specs.{Limits.longest_name, Limits.longest_target}
 
 abbrev pub has_byte : ℕ → List ℕ → Bool
 has_byte byte [] = false
@@ -23,14 +20,12 @@ name_fault name =
     if (length name == 0) || has_nul name || has_slash name then Some Inval
     else (if nat_lt longest_name (length name) then Some NameTooLong else None)
 
--- what is wrong with a symbolic link's path
 unfoldable pub target_fault : List ℕ → Option Status
 target_fault target =
     if (length target == 0) || has_nul target then Some Inval
     else (if nat_lt longest_target (length target) then Some NameTooLong else None)
 
--- ---- names that are there without an entry
-
+-- names that are there without an entry
 abbrev pub is_dot : List ℕ → Bool
 is_dot name = bytes_eq name (codes ".")
 
@@ -43,11 +38,8 @@ is_dots name = is_dot name || is_dot_dot name
 abbrev pub names_snapshots : List ℕ → Bool
 names_snapshots name = bytes_eq name (codes ".snapshot")
 
--- ---- entries
-
 unfoldable pub has_name : List ℕ → NameEntry → Bool
 has_name name e = bytes_eq e.name name
 
--- the entry of this name among these
 unfoldable pub named : List ℕ → List NameEntry → Option NameEntry
 named name names = find (has_name name) names

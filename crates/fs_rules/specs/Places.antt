@@ -1,21 +1,12 @@
 -- Where handles lead, and where the names of a directory lead.
-use Rattle.std.specs.Prelude.{ℕ, ◌+◌, ◌-◌, ◌^◌, ◌==◌, Bool, false, ◌&&◌, if◌then◌else◌, List, [], map, length, find}
-use Rattle.std.specs.Prelude.{Option, Some, None, option_map}
-use Rattle.nfs3_types.specs.declared.attributes.Fattr.{Fattr}
-use Rattle.nfs3_types.specs.declared.attributes.Wcc.{Wcc}
-use Rattle.nfs3_types.specs.declared.handle.Handle.{Handle}
-use Rattle.nfs3_types.specs.Handles.{handle}
-use Rattle.fs_rules.specs.declared.inode.Inode.{Inode}
-use Rattle.fs_rules.specs.declared.name_entry.NameEntry.{NameEntry}
-use Rattle.fs_rules.specs.declared.place.Place.{Place}
-use Rattle.fs_rules.specs.declared.place.Place.TheVariants.{Live, SnapshotDirectory, Kept}
-use Rattle.fs_rules.specs.Attributes.{attributes_of, wcc_of}
-use Rattle.fs_rules.specs.Names.{is_dot, is_dot_dot, names_snapshots, named}
-use Rattle.fs_rules.specs.Tree.{Node, Snapshot, Tree, root_inode}
+use Rattle.fs_rules.specs.Words.{ℕ, ◌+◌, ◌-◌, ◌^◌, ◌==◌, Bool, false, ◌&&◌, if◌then◌else◌, List, [], map, length, find, Option}
+use Rattle.fs_rules.specs.Words.{Some, None, option_map, Fattr, Wcc, Handle, handle, Inode, NameEntry, Place, Live}
+use Rattle.fs_rules.specs.Words.{SnapshotDirectory, Kept}
+use Rattle.fs_rules.specs.{Attributes.attributes_of, Attributes.wcc_of, Names.is_dot, Names.is_dot_dot, Names.names_snapshots}
+use Rattle.fs_rules.specs.{Names.named, Tree.Node, Tree.Snapshot, Tree.Tree, Tree.root_inode}
 
--- ---- handles: the file system, the snapshot and the file; snapshot 0 is the live tree, and the greatest
--- ---- number, with file 2, stands for the directory `.snapshot`
-
+-- A handle names the file system, the snapshot and the file. Snapshot 0 is the live tree, and the greatest number, with
+-- file 2, stands for the directory `.snapshot`.
 abbrev pub no_snapshot : ℕ
 no_snapshot = 2 ^ 64 - 1
 
@@ -35,17 +26,13 @@ fileid_at (Live fileid) = fileid
 fileid_at SnapshotDirectory = 2
 fileid_at (Kept number fileid) = fileid
 
--- the bytes of the handle of a place
 unfoldable pub handle_at : Tree → Place → List ℕ
 handle_at t place = handle.spelling (record { fsid = t.fsid; snapshot = snapshot_at place; fileid = fileid_at place })
-
--- ---- what stands there
 
 -- a snapshot as an entry of `.snapshot`, which says its number
 abbrev pub snapshot_entry : Snapshot → NameEntry
 snapshot_entry s = record { cookie = s.number + 2; name = s.name; fileid = s.number }
 
--- the directory `.snapshot`
 unfoldable pub snapshot_directory : Tree → Node
 snapshot_directory t = record {
   inode = root_inode (2 + length t.snapshots) (t.epoch + 2) t.snapshot_times;
@@ -76,7 +63,6 @@ abbrev pub names_of : Option Node → List NameEntry
 names_of (Some n) = n.names
 names_of None = []
 
--- the content there, and the names
 abbrev pub content_at : Tree → Place → List ℕ
 content_at t place = content_of (node_at t place)
 
@@ -99,8 +85,7 @@ object_at t place = option_map (object_by place) (node_at t place)
 unfoldable pub object_of : Tree → Handle → Option Object
 object_of t h = if h.fsid == t.fsid then object_at t (place_of h) else None
 
--- ---- what is told of it: attributes; those of snapshot n's files are of the file system n further on
-
+-- the attributes of snapshot n's files are of the file system n further on
 abbrev pub fsid_at : Tree → Place → ℕ
 fsid_at t (Live fileid) = t.fsid
 fsid_at t SnapshotDirectory = t.fsid
@@ -109,15 +94,11 @@ fsid_at t (Kept number fileid) = t.fsid + number
 unfoldable pub attributes : Tree → Object → Fattr
 attributes t o = attributes_of (fsid_at t o.place) (fileid_at o.place) o.inode o.size
 
--- the attributes there
 unfoldable pub shown : Tree → Place → Option Fattr
 shown t place = option_map (attributes t) (object_at t place)
 
--- the attributes there before and after
 abbrev pub change : Tree → Tree → Place → Wcc
 change before after place = wcc_of (shown before place) (shown after place)
-
--- ---- where names lead
 
 -- the directory above: the root is above itself, `.snapshot` above a snapshot's root, and the root above it
 abbrev pub above : Place → Inode → Place
@@ -139,7 +120,6 @@ is_live_root place = false
 abbrev pub is_snapshots_name : Place → List ℕ → Bool
 is_snapshots_name place name = is_live_root place && names_snapshots name
 
--- the entry of a name in the directory there
 unfoldable pub entry_at : Tree → Place → List ℕ → Option NameEntry
 entry_at t directory name = named name (names_at t directory)
 

@@ -1,21 +1,11 @@
 -- REMOVE, and RMDIR outside of `.snapshot` (RFC 1813, sections 3.3.12 and 3.3.13).
-use Rattle.std.specs.Prelude.{ℕ, nat_lt, Bool, ◌&&◌, if◌then◌else◌, List, length, Option, Some, None, Ok, option_and_then}
-use Rattle.nfs3_types.specs.declared.args.DirOp.{DirOp}
-use Rattle.nfs3_types.specs.declared.body.Body.TheVariants.{Remove, Rmdir}
-use Rattle.nfs3_types.specs.declared.cred.Cred.{Cred}
-use Rattle.nfs3_types.specs.declared.moment.Moment.{Moment}
-use Rattle.nfs3_types.specs.declared.status.Status.TheVariants.{Acces, Exist, Inval, IsDir, NoEnt, NotDir, NotEmpty}
-use Rattle.fs_rules.specs.declared.inode.Inode.{Inode}
-use Rattle.fs_rules.specs.declared.place.Place.{Place}
-use Rattle.fs_rules.specs.declared.place.Place.TheVariants.{Live}
-use Rattle.fs_rules.specs.declared.plans.RemovePlan.{RemovePlan}
-use Rattle.fs_rules.specs.Attributes.{is_directory}
-use Rattle.fs_rules.specs.Checks.{Check, Row, ◌>>=◌, done, find_directory, need, need_place_for, refuse_if, some_or}
-use Rattle.fs_rules.specs.Edits.{drop_link, drop_name, drop_node, edit_node, set_ctime, touch, with_node}
-use Rattle.fs_rules.specs.Names.{is_dot, is_dot_dot, is_dots}
-use Rattle.fs_rules.specs.Places.{Object, change, entry_at, fileid_at, is_snapshots_name, leads_to, names_at}
-use Rattle.fs_rules.specs.Rights.{may_search, may_write}
-use Rattle.fs_rules.specs.Tree.{Node, Tree}
+use Rattle.fs_rules.specs.Words.{ℕ, nat_lt, Bool, ◌&&◌, if◌then◌else◌, List, length, Option, Some, None, Ok, option_and_then}
+use Rattle.fs_rules.specs.Words.{DirOp, Remove, Rmdir, Cred, Moment, Acces, Exist, Inval, IsDir, NoEnt, NotDir, NotEmpty, Inode}
+use Rattle.fs_rules.specs.Words.{Place, Live, RemovePlan}
+use Rattle.fs_rules.specs.Shared.{is_directory, Check, Row, ◌>>=◌, done, find_directory, need, need_place_for, refuse_if, some_or}
+use Rattle.fs_rules.specs.Shared.{drop_link, drop_name, drop_node, edit_node, set_ctime, touch, with_node, is_dot, is_dot_dot}
+use Rattle.fs_rules.specs.Shared.{is_dots, Object, change, entry_at, fileid_at, is_snapshots_name, leads_to, names_at, may_search}
+use Rattle.fs_rules.specs.Shared.{may_write, Node, Tree}
 
 -- the caller may take names out of a directory and put others in
 abbrev pub may_alter : Cred → Inode → Bool
@@ -24,15 +14,12 @@ may_alter cred directory = may_write cred directory && may_search cred directory
 abbrev pub has_names : Tree → Place → Bool
 has_names t place = nat_lt 0 (length (names_at t place))
 
--- what a name leads to, where the caller may take the name away
 unfoldable pub find_removable : Tree → Cred → Object → List ℕ → Check Object
 find_removable t cred directory name = do
   _ ← refuse_if (is_snapshots_name directory.place name) Acces
   _ ← need (may_alter cred directory.inode) Acces
   e ← some_or (entry_at t directory.place name) NoEnt
   some_or (leads_to t (Live e.fileid)) NoEnt
-
--- ---- REMOVE
 
 unfoldable pub remove_plan : Tree → Cred → DirOp (List ℕ) → Check RemovePlan
 remove_plan t cred a = do
@@ -49,7 +36,6 @@ lose_link now n = if nat_lt 1 n.inode.nlink then Some (set_ctime now (drop_link 
 unfoldable pub lose_name : Moment → ℕ → Tree → Tree
 lose_name now fileid t = record t { nodes = with_node fileid (option_and_then (lose_link now) (t.nodes fileid)) t.nodes }
 
--- the name of a file goes
 unfoldable pub remove_file : Moment → ℕ → List ℕ → ℕ → Tree → Tree
 remove_file now directory name fileid t = edit_node directory (λ n. touch now (drop_name name n)) (lose_name now fileid t)
 
@@ -59,8 +45,7 @@ remove t cred a now =
     (λ plan. remove_file now plan.directory a.name plan.fileid t)
     (λ plan after. Remove (change t after (Live plan.directory)))
 
--- ---- RMDIR, once the directory of the name is found
-
+-- RMDIR, once the directory of the name is found
 unfoldable pub remove_directory_plan : Tree → Cred → List ℕ → Object → Check RemovePlan
 remove_directory_plan t cred name directory = do
   _ ← need_place_for directory name
@@ -71,7 +56,6 @@ remove_directory_plan t cred name directory = do
   _ ← refuse_if (has_names t o.place) NotEmpty
   Ok (record { directory = fileid_at directory.place; fileid = fileid_at o.place })
 
--- an empty directory and its name go
 unfoldable pub drop_directory : Moment → ℕ → List ℕ → ℕ → Tree → Tree
 drop_directory now directory name fileid t =
     edit_node directory (λ n. touch now (drop_link (drop_name name n))) (drop_node fileid t)

@@ -1,37 +1,19 @@
 -- RENAME and LINK (RFC 1813, sections 3.3.14 and 3.3.15).
-use Rattle.std.specs.Prelude.{ℕ, zero, suc, ◌+◌, ◌==◌, nat_le, Bool, true, false, ◌||◌, ◌&&◌, not, if◌then◌else◌, List}
-use Rattle.std.specs.Prelude.{is_none, Option, Some, None, option_map, option_and_then, Ok, Err}
-use Rattle.nfs3_types.specs.declared.args.LinkArgs.{LinkArgs}
-use Rattle.nfs3_types.specs.declared.args.RenameArgs.{RenameArgs}
-use Rattle.nfs3_types.specs.declared.body.Body.TheVariants.{Link, Rename}
-use Rattle.nfs3_types.specs.declared.cred.Cred.{Cred}
-use Rattle.nfs3_types.specs.declared.moment.Moment.{Moment}
-use Rattle.nfs3_types.specs.declared.status.Status.TheVariants.{Acces, Exist, Inval, MLink, NameTooLong, NoEnt, NoSpc, Xdev}
-use Rattle.fs_rules.specs.declared.name_entry.NameEntry.{NameEntry}
-use Rattle.fs_rules.specs.declared.place.Place.TheVariants.{Live}
-use Rattle.fs_rules.specs.declared.plans.Climb.{Climb}
-use Rattle.fs_rules.specs.declared.plans.Climb.TheVariants.{TooDeep, Found, Root}
-use Rattle.fs_rules.specs.declared.plans.LinkPlan.{LinkPlan}
-use Rattle.fs_rules.specs.declared.plans.RenamePlan.{RenamePlan}
-use Rattle.fs_rules.specs.declared.plans.Replaced.{Replaced}
-use Rattle.fs_rules.specs.Attributes.{given, is_directory}
-use Rattle.fs_rules.specs.Checks.{Check, Row, ◌>>=◌, done, find_object, is_live, need, need_directory, need_good_name}
-use Rattle.fs_rules.specs.Checks.{need_live, need_search, refuse_if, some_or}
-use Rattle.fs_rules.specs.Edits.{add_link, add_name, drop_link, drop_name, edit_node, set_ctime, set_parent, touch}
-use Rattle.fs_rules.specs.Limits.{deepest, most_links}
-use Rattle.fs_rules.specs.Making.{lacks_cookies, need_free_name}
-use Rattle.fs_rules.specs.Names.{is_dots}
-use Rattle.fs_rules.specs.Places.{Object, change, entry_at, fileid_at, is_snapshots_name, leads_to, shown}
-use Rattle.fs_rules.specs.Removing.{drop_directory, has_names, may_alter, remove_file}
-use Rattle.fs_rules.specs.Tree.{Node, Nodes, Tree}
-
--- ---- the way from a directory up to the root
+use Rattle.fs_rules.specs.Words.{ℕ, zero, suc, ◌+◌, ◌==◌, nat_le, Bool, true, false, ◌||◌, ◌&&◌, not, if◌then◌else◌, List}
+use Rattle.fs_rules.specs.Words.{is_none, Option, Some, None, option_map, option_and_then, Ok, Err, LinkArgs, RenameArgs, Link}
+use Rattle.fs_rules.specs.Words.{Rename, Cred, Moment, Acces, Exist, Inval, MLink, NameTooLong, NoEnt, NoSpc, Xdev, NameEntry}
+use Rattle.fs_rules.specs.Words.{Live, Climb, TooDeep, Found, Root, LinkPlan, RenamePlan, Replaced}
+use Rattle.fs_rules.specs.Shared.{given, is_directory, Check, Row, ◌>>=◌, done, find_object, is_live, need, need_directory}
+use Rattle.fs_rules.specs.Shared.{need_good_name, need_live, need_search, refuse_if, some_or, add_link, add_name, drop_link}
+use Rattle.fs_rules.specs.Shared.{drop_name, edit_node, set_ctime, set_parent, touch, deepest, most_links, is_dots, Object}
+use Rattle.fs_rules.specs.Shared.{change, entry_at, fileid_at, is_snapshots_name, leads_to, shown, Node, Nodes, Tree}
+use Rattle.fs_rules.specs.{Making.lacks_cookies, Making.need_free_name, Removing.drop_directory, Removing.has_names}
+use Rattle.fs_rules.specs.{Removing.may_alter, Removing.remove_file}
 
 abbrev pub parent_of : Option Node → ℕ → ℕ
 parent_of (Some n) fileid = n.inode.parent
 parent_of None fileid = fileid
 
--- the way leads through the directory that was sought, if this is it
 abbrev pub through : Bool → Climb → Climb
 through true Root = Found
 through here way = way
@@ -49,8 +31,6 @@ allow_move TooDeep = Err NameTooLong
 allow_move Found = Err Inval
 allow_move Root = Ok tt
 
--- ---- RENAME
-
 -- a node that gets another name: its directory, the directory of the new name, and what has that name
 pub record Renaming : Type 0 where
   pub from : Object
@@ -64,7 +44,6 @@ target_at t e = option_and_then (λ e. leads_to t (Live e.fileid)) e
 abbrev pub is_same_node : Renaming → Bool
 is_same_node r = given r.target (λ o. fileid_at o.place == fileid_at r.source.place)
 
--- a directory gets another parent
 abbrev pub reparents : Renaming → Bool
 reparents r = is_directory r.source.inode.kind && not (fileid_at r.from.place == fileid_at r.to.place)
 
@@ -72,13 +51,11 @@ abbrev pub differs : Bool → Bool → Bool
 differs true b = not b
 differs false b = b
 
--- what has the new name cannot go for the source: one of the two is a directory and the other is not, or it is
--- a directory that is not empty
+-- what has the new name cannot go for the source: just one of the two is a directory, or it is one with names
 abbrev pub is_in_the_way : Tree → Object → Object → Bool
 is_in_the_way t source o =
     differs (is_directory o.inode.kind) (is_directory source.inode.kind) || (is_directory o.inode.kind && has_names t o.place)
 
--- what is found: first the directories of both names, then what has them
 unfoldable pub find_renaming : Tree → Cred → RenameArgs (List ℕ) → Check Renaming
 find_renaming t cred a = do
   from ← find_object t a.from.directory
@@ -127,11 +104,9 @@ replace now to name (Some r) t =
     if r.is_directory then drop_directory now to name r.fileid t else remove_file now to name r.fileid t
 replace now to name None t = t
 
--- a moved directory leaves its parent's links and joins the other's
 abbrev pub relink : RenamePlan → Tree → Tree
 relink p t = if p.reparents then edit_node p.to add_link (edit_node p.from drop_link t) else t
 
--- a directory that gets another parent has it
 abbrev pub renew : RenamePlan → Moment → Node → Node
 renew p now n = set_ctime now (if p.reparents then set_parent p.to n else n)
 
@@ -148,8 +123,6 @@ rename t cred a now =
     done (rename_plan t cred a)
     (λ plan. if plan.is_same then t else move_node now a plan t)
     (λ plan after. Rename (record { from = change t after (Live plan.from); to = change t after (Live plan.to) }))
-
--- ---- LINK
 
 -- a file that is not in the live tree is in another file system than the directory
 unfoldable pub link_plan : Tree → Cred → LinkArgs (List ℕ) → Check LinkPlan

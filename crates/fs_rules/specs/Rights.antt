@@ -1,10 +1,7 @@
 -- Who may do what (RFC 1813, section 4.4): user 0 all; the owner by the owner's bits of the mode, else a member
 -- of the group by the group's, else by the others'.
-use Rattle.std.specs.Prelude.{ℕ, ◌/◌, ◌%◌, ◌==◌, Bool, false, ◌||◌, if◌then◌else◌, List, [], ◌∷◌}
-use Rattle.std.specs.Prelude.{bit_and}
-use Rattle.byteorder.specs.Endian.{big_number}
-use Rattle.nfs3_types.specs.declared.cred.Cred.{Cred}
-use Rattle.fs_rules.specs.declared.inode.Inode.{Inode}
+use Rattle.fs_rules.specs.Words.{ℕ, ◌/◌, ◌%◌, ◌==◌, Bool, false, ◌||◌, if◌then◌else◌, List, [], ◌∷◌, bit_and, big_number, Cred}
+use Rattle.fs_rules.specs.Words.{Inode}
 
 -- a word is among words of four bytes each, the highest first
 abbrev pub has_word : ℕ → List ℕ → Bool
@@ -24,8 +21,6 @@ bits_for cred mode uid gid =
 unfoldable pub may : Cred → ℕ → ℕ → ℕ → ℕ → Bool
 may cred mode uid gid want = (cred.uid == 0) || (bit_and (bits_for cred mode uid gid) want == want)
 
--- ---- of an inode
-
 abbrev pub may_do : Cred → Inode → ℕ → Bool
 may_do cred i want = may cred i.mode i.uid i.gid want
 
@@ -38,6 +33,5 @@ may_write cred i = may_do cred i 2
 abbrev pub may_search : Cred → Inode → Bool
 may_search cred i = may_do cred i 1
 
--- user 0 and the owner
 abbrev pub owns : Cred → ℕ → Bool
 owns cred uid = (cred.uid == 0) || (cred.uid == uid)

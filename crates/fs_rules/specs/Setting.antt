@@ -1,18 +1,9 @@
 -- SETATTR (RFC 1813, section 3.3.2).
-use Rattle.std.specs.Prelude.{ℕ, ◌+◌, ◌==◌, nat_le, nat_lt, Bool, ◌&&◌, not, List, Option, Ok}
-use Rattle.nfs3_types.specs.declared.args.SetAttrArgs.{SetAttrArgs}
-use Rattle.nfs3_types.specs.declared.body.Body.TheVariants.{SetAttr}
-use Rattle.nfs3_types.specs.declared.cred.Cred.{Cred}
-use Rattle.nfs3_types.specs.declared.moment.Moment.{Moment}
-use Rattle.nfs3_types.specs.declared.status.Status.TheVariants.{NoSpc, NotSync}
-use Rattle.fs_rules.specs.declared.place.Place.TheVariants.{Live}
-use Rattle.fs_rules.specs.declared.plans.SetAttrPlan.{SetAttrPlan}
-use Rattle.fs_rules.specs.Attributes.{apply_sattr, given, sattr_fault}
-use Rattle.fs_rules.specs.Checks.{Check, Row, ◌>>=◌, done, find_object, need_live, no_fault, refuse_if}
-use Rattle.fs_rules.specs.Edits.{edit_node, set_attributes, set_size_if}
-use Rattle.fs_rules.specs.Limits.{most_numbers}
-use Rattle.fs_rules.specs.Places.{Object, attributes, change, fileid_at}
-use Rattle.fs_rules.specs.Tree.{Tree}
+use Rattle.fs_rules.specs.Words.{ℕ, ◌+◌, ◌==◌, nat_le, nat_lt, Bool, ◌&&◌, not, List, Option, Ok, SetAttrArgs, SetAttr, Cred}
+use Rattle.fs_rules.specs.Words.{Moment, NoSpc, NotSync, Live, SetAttrPlan}
+use Rattle.fs_rules.specs.Shared.{apply_sattr, given, sattr_fault, Check, Row, ◌>>=◌, done, find_object, need_live, no_fault}
+use Rattle.fs_rules.specs.Shared.{refuse_if, edit_node, set_attributes, set_size_if, most_numbers, Object, attributes, change}
+use Rattle.fs_rules.specs.Shared.{fileid_at, Tree}
 
 abbrev pub is_same : Moment → Moment → Bool
 is_same a b = (a.seconds == b.seconds) && (a.nanos == b.nanos)
@@ -25,7 +16,6 @@ unfoldable pub set_attr_plan : Tree → Cred → SetAttrArgs (List ℕ) → Mome
 set_attr_plan t cred a now = do
   o ← find_object t a.object
   _ ← need_live o
-  -- a guard that is not the time of the last change
   _ ← refuse_if (given a.guard (λ guard. not (is_same guard o.inode.ctime))) NotSync
   _ ← no_fault (sattr_fault cred (attributes t o) a.attributes)
   _ ← refuse_if (lacks_cuts a.attributes.size o) NoSpc

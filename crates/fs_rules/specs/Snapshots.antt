@@ -1,23 +1,11 @@
 -- MKDIR and RMDIR. In the directory `.snapshot`, MKDIR takes a snapshot and RMDIR drops one: snapshots are this
 -- service's own; their files are read as any others, and never change.
-use Rattle.std.specs.Prelude.{ℕ, ◌+◌, ◌==◌, nat_le, Bool, true, false, ◌||◌, not, if◌then◌else◌, List, [], ◌∷◌, ◌++◌, length}
-use Rattle.std.specs.Prelude.{filter, bytes_eq, is_some}
-use Rattle.nfs3_types.specs.declared.args.DirOp.{DirOp}
-use Rattle.nfs3_types.specs.declared.args.MkdirArgs.{MkdirArgs}
-use Rattle.nfs3_types.specs.declared.body.Body.TheVariants.{Mkdir, Rmdir}
-use Rattle.nfs3_types.specs.declared.cred.Cred.{Cred}
-use Rattle.nfs3_types.specs.declared.moment.Moment.{Moment}
-use Rattle.nfs3_types.specs.declared.status.Status.TheVariants.{Acces, Exist, Inval, NoEnt, NoSpc}
-use Rattle.fs_rules.specs.declared.place.Place.{Place}
-use Rattle.fs_rules.specs.declared.place.Place.TheVariants.{SnapshotDirectory, Kept}
-use Rattle.fs_rules.specs.declared.times.Times.{Times}
-use Rattle.fs_rules.specs.Checks.{Check, Row, ◌>>=◌, done, find_object, need, need_good_name, refuse_if}
-use Rattle.fs_rules.specs.Limits.{last_epoch, most_snapshots}
-use Rattle.fs_rules.specs.Making.{make_directory, told_of_new}
-use Rattle.fs_rules.specs.Names.{is_dot, is_dot_dot, is_dots}
-use Rattle.fs_rules.specs.Places.{change, entry_at}
-use Rattle.fs_rules.specs.Removing.{remove_directory}
-use Rattle.fs_rules.specs.Tree.{Tree}
+use Rattle.fs_rules.specs.Words.{ℕ, ◌+◌, ◌==◌, nat_le, Bool, true, false, ◌||◌, not, if◌then◌else◌, List, [], ◌∷◌, ◌++◌, length}
+use Rattle.fs_rules.specs.Words.{filter, bytes_eq, is_some, DirOp, MkdirArgs, Mkdir, Rmdir, Cred, Moment, Acces, Exist, Inval}
+use Rattle.fs_rules.specs.Words.{NoEnt, NoSpc, Place, SnapshotDirectory, Kept, Times}
+use Rattle.fs_rules.specs.Shared.{Check, Row, ◌>>=◌, done, find_object, need, need_good_name, refuse_if, last_epoch}
+use Rattle.fs_rules.specs.Shared.{most_snapshots, is_dot, is_dot_dot, is_dots, change, entry_at, Tree}
+use Rattle.fs_rules.specs.{Making.make_directory, Making.told_of_new, Removing.remove_directory}
 
 abbrev pub touch_times : Moment → Times → Times
 touch_times now times = record times { mtime = now; ctime = now }
@@ -25,9 +13,6 @@ touch_times now times = record times { mtime = now; ctime = now }
 abbrev pub has_snapshot : Tree → List ℕ → Bool
 has_snapshot t name = is_some (entry_at t SnapshotDirectory name)
 
--- ---- taking one
-
--- user 0 alone takes snapshots
 unfoldable pub need_new_snapshot : Tree → Cred → List ℕ → Check (Unit {0})
 need_new_snapshot t cred name = do
   _ ← need_good_name name
@@ -50,8 +35,6 @@ take_snapshot t cred name now =
     (λ plan. add_snapshot now name t)
     (λ plan after. Mkdir (told_of_new t after SnapshotDirectory (Kept t.epoch 1)))
 
--- ---- dropping one
-
 unfoldable pub need_snapshot : Tree → Cred → List ℕ → Check (Unit {0})
 need_snapshot t cred name = do
   _ ← need_good_name name
@@ -71,8 +54,6 @@ drop_snapshot t cred name now =
     done (need_snapshot t cred name)
     (λ plan. drop_named now name t)
     (λ plan after. Rmdir (change t after SnapshotDirectory))
-
--- ---- the two procedures
 
 abbrev pub is_snapshot_directory : Place → Bool
 is_snapshot_directory SnapshotDirectory = true

@@ -1,21 +1,12 @@
 -- What a sound tree is: the trees that calls make from the first one are sound. First its bounds: what holds of each
 -- node alone, of the numbers that were given, and of the snapshots. Then how the nodes hang together: names lead to
 -- nodes, each node has the names that its links count, and the parents of directories lead to the root.
-use Rattle.std.specs.Prelude.{◌≡◌, ◌≢◌, ⊤, ℕ, zero, suc, ◌+◌, ◌^◌, ◌%◌, ◌≤◌, ◌<◌, ◌==◌, nat_le, nat_lt, Bool, true, false}
-use Rattle.std.specs.Prelude.{◌||◌, ◌&&◌, All, IfSome, List, [], ◌∷◌, length, map, filter, Option, Some, None, is_some}
-use Rattle.std.specs.Prelude.{bytes_eq}
-use Rattle.nfs3_types.specs.declared.file_type.FileType.{FileType}
-use Rattle.nfs3_types.specs.declared.file_type.FileType.TheVariants.{Reg, Dir, Lnk}
-use Rattle.fs_rules.specs.declared.name_entry.NameEntry.{NameEntry}
-use Rattle.fs_rules.specs.declared.place.Place.TheVariants.{Live}
-use Rattle.fs_rules.specs.Attributes.{is_directory}
-use Rattle.fs_rules.specs.Limits.{last_epoch, longest_target, most_links, most_numbers, most_size, most_snapshots}
-use Rattle.fs_rules.specs.Names.{is_dots, name_fault}
-use Rattle.fs_rules.specs.Places.{is_snapshots_name, snapshot_entry}
-use Rattle.fs_rules.specs.Renaming.{parent_of}
-use Rattle.fs_rules.specs.Tree.{Node, Nodes, Tree, next_fileid}
-
--- ---- names
+use Rattle.fs_rules.specs.Words.{◌≡◌, ◌≢◌, ⊤, ℕ, zero, suc, ◌+◌, ◌^◌, ◌%◌, ◌≤◌, ◌<◌, ◌==◌, nat_le, nat_lt, Bool, true, false}
+use Rattle.fs_rules.specs.Words.{◌||◌, ◌&&◌, All, IfSome, List, [], ◌∷◌, length, map, filter, Option, Some, None, is_some}
+use Rattle.fs_rules.specs.Words.{bytes_eq, FileType, Reg, Dir, Lnk, NameEntry, Live}
+use Rattle.fs_rules.specs.Shared.{is_directory, last_epoch, longest_target, most_links, most_numbers, most_size, most_snapshots}
+use Rattle.fs_rules.specs.Shared.{is_dots, name_fault, is_snapshots_name, snapshot_entry, Node, Nodes, Tree, next_fileid}
+use Rattle.fs_rules.specs.{Renaming.parent_of}
 
 -- an own name, and none that is there without an entry
 pub record IsEntryName (directory : ℕ) (name : List ℕ) : Type 0 where
@@ -32,16 +23,12 @@ pub record AreEntries (directory next : ℕ) (names : List NameEntry) : Type 0 w
   pub own : All (λ e. IsEntryName directory e.name) names
   pub cookies : Rise 3 next names
 
--- no entry of these has this name
 abbrev pub Lacks : List ℕ → List NameEntry → Type 0
 Lacks name names = All (λ e. bytes_eq e.name name ≡ false) names
 
--- no name stands twice
 unfoldable pub AreDistinct : List NameEntry → Type 0
 AreDistinct [] = ⊤
 AreDistinct (e ∷ names) = Lacks e.name names × AreDistinct names
-
--- ---- bounds of a node
 
 pub record IsDirectoryWithin (fileid : ℕ) (n : Node) : Type 0 where
   pub empty : n.content ≡ []
@@ -84,7 +71,6 @@ pub record IsNodeWithin (fileid : ℕ) (n : Node) : Type 0 where
 unfoldable pub is_given : Tree → ℕ → Bool
 is_given t fileid = (fileid == 1) || (nat_le 16 fileid && nat_lt fileid (next_fileid t (fileid % 16)))
 
--- the number that a lane gives next
 pub record IsNextOf (lane next : ℕ) : Type 0 where
   pub own : next % 16 ≡ lane
   pub least : 16 ≤ next
@@ -110,9 +96,6 @@ pub record HasBounds (t : Tree) : Type 0 where
   pub epoch : t.epoch ≤ last_epoch
   pub fsid : t.fsid ≤ 2 ^ 63
 
--- ---- counts of names
-
--- the names of this node among these, and in a directory
 unfoldable pub count_of : ℕ → List NameEntry → ℕ
 count_of fileid names = length (filter (λ e. e.fileid == fileid) names)
 
@@ -120,7 +103,6 @@ abbrev pub count_in : Option Node → ℕ → ℕ
 count_in (Some n) fileid = count_of fileid n.names
 count_in None fileid = 0
 
--- the sum over all numbers below this one
 unfoldable pub sum_below : (ℕ → ℕ) → ℕ → ℕ
 sum_below f zero = 0
 sum_below f (suc n) = f n + sum_below f n
@@ -129,26 +111,20 @@ sum_below f (suc n) = f n + sum_below f n
 unfoldable pub all_numbers : ℕ
 all_numbers = most_numbers + 15
 
--- the names of this node in all directories
 unfoldable pub count_names : Nodes → ℕ → ℕ
 count_names nodes fileid = sum_below (λ directory. count_in (nodes directory) fileid) all_numbers
-
--- ---- directories
 
 abbrev pub is_some_directory : Option Node → Bool
 is_some_directory (Some n) = is_directory n.inode.kind
 is_some_directory None = false
 
--- how many of these names lead to directories
 unfoldable pub subdirectories : Nodes → List NameEntry → ℕ
 subdirectories nodes names = length (filter (λ e. is_some_directory (nodes e.fileid)) names)
 
--- so many steps up
 unfoldable pub ancestor : Nodes → ℕ → ℕ → ℕ
 ancestor nodes zero fileid = fileid
 ancestor nodes (suc steps) fileid = ancestor nodes steps (parent_of (nodes fileid) fileid)
 
--- the parents lead to the root
 pub record LeadsUp (nodes : Nodes) (fileid : ℕ) : Type 0 where
   pub steps : ℕ
   pub ends : ancestor nodes steps fileid ≡ 1
@@ -191,8 +167,6 @@ pub record HangTogether (nodes : Nodes) : Type 0 where
   pub unnamed : count_names nodes 1 ≡ 0
   pub names : (fileid : ℕ) → IfSome (nodes fileid) (λ n. AreNames nodes n.names)
   pub links : (fileid : ℕ) → IfSome (nodes fileid) (λ n. IsLinked (is_directory n.inode.kind) nodes fileid n)
-
--- ---- A SOUND TREE
 
 pub record IsSound (t : Tree) : Type 0 where
   pub bounds : HasBounds t

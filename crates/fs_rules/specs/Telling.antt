@@ -1,27 +1,16 @@
 -- What is told of a file and of the file system: GETATTR, ACCESS, READLINK, FSSTAT, FSINFO and PATHCONF (RFC
 -- 1813, sections 3.3.1, 3.3.4, 3.3.5 and 3.3.18 to 3.3.20).
-use Rattle.std.specs.Prelude.{ℕ, ◌+◌, ◌^◌, Bool, true, false, ◌&&◌, not, if◌then◌else◌, bit_and, List, Some, Ok}
-use Rattle.nfs3_types.specs.declared.args.AccessArgs.{AccessArgs}
-use Rattle.nfs3_types.specs.declared.body.Body.{Body}
-use Rattle.nfs3_types.specs.declared.body.Body.TheVariants.{GetAttr, Access, ReadLink, FsStat, FsInfo, PathConf}
-use Rattle.nfs3_types.specs.declared.cred.Cred.{Cred}
-use Rattle.nfs3_types.specs.declared.status.Status.TheVariants.{Inval}
-use Rattle.fs_rules.specs.declared.place.Place.{Place}
-use Rattle.fs_rules.specs.declared.place.Place.TheVariants.{Kept}
-use Rattle.fs_rules.specs.Attributes.{is_directory, is_link}
-use Rattle.fs_rules.specs.Checks.{Check, ◌>>=◌, find_object, need}
-use Rattle.fs_rules.specs.Limits.{longest_name, most_links, most_size, told_listing, told_transfer}
-use Rattle.fs_rules.specs.Places.{Object, attributes, content_at}
-use Rattle.fs_rules.specs.Rights.{may_read, may_search, may_write}
-use Rattle.fs_rules.specs.Tree.{Tree}
+use Rattle.fs_rules.specs.Words.{ℕ, ◌+◌, ◌^◌, Bool, true, false, ◌&&◌, not, if◌then◌else◌, bit_and, List, Some, Ok, AccessArgs}
+use Rattle.fs_rules.specs.Words.{Body, GetAttr, Access, ReadLink, FsStat, FsInfo, PathConf, Cred, Inval, Place, Kept}
+use Rattle.fs_rules.specs.Shared.{is_directory, is_link, Check, ◌>>=◌, find_object, need, longest_name, most_links, told_transfer}
+use Rattle.fs_rules.specs.Shared.{most_size, told_listing, Object, attributes, content_at, may_read, may_search, may_write, Tree}
 
 unfoldable pub get_attr : Tree → List ℕ → Check Body
 get_attr t handle = do
   o ← find_object t handle
   Ok (GetAttr (attributes t o))
 
--- ---- ACCESS: READ 1, LOOKUP 2, MODIFY 4, EXTEND 8, DELETE 16, EXECUTE 32
-
+-- ACCESS: READ 1, LOOKUP 2, MODIFY 4, EXTEND 8, DELETE 16, EXECUTE 32
 abbrev pub bits_if : ℕ → Bool → ℕ
 bits_if bits allowed = if allowed then bits else 0
 
@@ -40,7 +29,6 @@ allowed_of cred o =
     bits_if 1 (may_read cred o.inode) + bits_if 32 (may_search cred o.inode)
     + bits_if 12 (may_write cred o.inode && not (is_kept o.place))
 
--- what the caller is allowed
 unfoldable pub allowed : Cred → Object → ℕ
 allowed cred o = if is_directory o.inode.kind then allowed_in cred o else allowed_of cred o
 
@@ -54,8 +42,6 @@ read_link t handle = do
   o ← find_object t handle
   _ ← need (is_link o.inode.kind) Inval
   Ok (ReadLink (record { attributes = Some (attributes t o); target = content_at t o.place }))
-
--- ---- the file system
 
 -- there is always room for 2^60 bytes and files more
 unfoldable pub fs_stat : Tree → List ℕ → Check Body

@@ -1,22 +1,10 @@
 -- READ, WRITE and COMMIT (RFC 1813, sections 3.3.6, 3.3.7 and 3.3.21).
-use Rattle.std.specs.Prelude.{ℕ, ◌+◌, ◌-◌, ◌==◌, nat_le, nat_lt, Bool, ◌||◌, ◌&&◌, min, List, length, take, drop, Some, Ok}
-use Rattle.nfs3_types.specs.declared.args.FileRange.{FileRange}
-use Rattle.nfs3_types.specs.declared.args.WriteArgs.{WriteArgs}
-use Rattle.nfs3_types.specs.declared.body.Body.{Body}
-use Rattle.nfs3_types.specs.declared.body.Body.TheVariants.{Read, Write, Commit}
-use Rattle.nfs3_types.specs.declared.cred.Cred.{Cred}
-use Rattle.nfs3_types.specs.declared.moment.Moment.{Moment}
-use Rattle.nfs3_types.specs.declared.stable_how.StableHow.TheVariants.{FileSync}
-use Rattle.nfs3_types.specs.declared.status.Status.TheVariants.{Acces, FBig, Inval}
-use Rattle.fs_rules.specs.declared.inode.Inode.{Inode}
-use Rattle.fs_rules.specs.declared.place.Place.TheVariants.{Live}
-use Rattle.fs_rules.specs.declared.plans.WritePlan.{WritePlan}
-use Rattle.fs_rules.specs.Checks.{Check, Row, ◌>>=◌, done, find_object, need, need_file, need_live, refuse_if}
-use Rattle.fs_rules.specs.Edits.{edit_node, write_at}
-use Rattle.fs_rules.specs.Limits.{most_size, most_transfer}
-use Rattle.fs_rules.specs.Places.{attributes, change, content_at, fileid_at}
-use Rattle.fs_rules.specs.Rights.{may_read, may_search, may_write, owns}
-use Rattle.fs_rules.specs.Tree.{Tree}
+use Rattle.fs_rules.specs.Words.{ℕ, ◌+◌, ◌-◌, ◌==◌, nat_le, nat_lt, Bool, ◌||◌, ◌&&◌, min, List, length, take, drop, Some, Ok}
+use Rattle.fs_rules.specs.Words.{FileRange, WriteArgs, Body, Read, Write, Commit, Cred, Moment, FileSync, Acces, FBig, Inval}
+use Rattle.fs_rules.specs.Words.{Inode, Live, WritePlan}
+use Rattle.fs_rules.specs.Shared.{Check, Row, ◌>>=◌, done, find_object, need, need_file, need_live, refuse_if, edit_node}
+use Rattle.fs_rules.specs.Shared.{write_at, most_size, most_transfer, attributes, change, content_at, fileid_at, may_read}
+use Rattle.fs_rules.specs.Shared.{may_search, may_write, owns, Tree}
 
 -- how many bytes are read of so many: what is asked for, at most the greatest transfer, and what is there
 abbrev pub read_count : FileRange (List ℕ) → ℕ → ℕ
@@ -42,13 +30,9 @@ commit t a = do
   _ ← need_file o
   Ok (Commit (record { file = change t t o.place; verifier = t.verifier }))
 
--- ---- WRITE
-
--- the owner may always write
 abbrev pub may_fill : Cred → Inode → Bool
 may_fill cred i = owns cred i.uid || may_write cred i
 
--- at most the greatest transfer is written
 abbrev pub write_count : WriteArgs (List ℕ) → ℕ
 write_count a = min a.count most_transfer
 

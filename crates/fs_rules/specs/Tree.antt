@@ -1,11 +1,7 @@
 -- The plain tree: all that one export keeps, as plain data. A snapshot is a whole copy, and a file's content is
 -- all of its bytes (RFC 1813, sections 1.6 and 2.6; snapshots, lanes and cuts are this service's own).
-use Rattle.std.specs.Prelude.{ℕ, ◌==◌, if◌then◌else◌, List, [], ◌∷◌, slice_index_or, Option, Some, None}
-use Rattle.nfs3_types.specs.declared.file_type.FileType.TheVariants.{Dir}
-use Rattle.nfs3_types.specs.declared.moment.Moment.{Moment}
-use Rattle.fs_rules.specs.declared.inode.Inode.{Inode}
-use Rattle.fs_rules.specs.declared.name_entry.NameEntry.{NameEntry}
-use Rattle.fs_rules.specs.declared.times.Times.{Times}
+use Rattle.fs_rules.specs.Words.{ℕ, ◌==◌, if◌then◌else◌, List, [], ◌∷◌, slice_index_or, Option, Some, None, Dir, Moment, Inode}
+use Rattle.fs_rules.specs.Words.{NameEntry, Times}
 
 pub record Node : Type 0 where
   pub inode : Inode
@@ -14,7 +10,6 @@ pub record Node : Type 0 where
   -- what a directory has, by rising cookie
   pub names : List NameEntry
 
--- nodes by their numbers
 abbrev pub Nodes : Type 0
 Nodes = ℕ → Option Node
 
@@ -38,11 +33,8 @@ pub record Tree : Type 0 where
   -- what tells a client that the server did not lose what it wrote (writeverf3)
   pub verifier : List ℕ
 
--- the number of the next new file of a lane
 abbrev pub next_fileid : Tree → ℕ → ℕ
 next_fileid t lane = slice_index_or t.next_fileids lane 0
-
--- ---- the first tree
 
 -- a directory in the root, of owner and group 0
 unfoldable pub root_inode : ℕ → ℕ → Times → Inode
