@@ -1,7 +1,8 @@
 -- The attributes of nodes, and how they are set (RFC 1813, sections 2.6 and 3.3.2).
-use Rattle.fs_rules.specs.Words.{ℕ, ◌==◌, ◌%◌, nat_lt, Bool, true, false, ◌||◌, ◌&&◌, not, if◌then◌else◌, Option, Some, None}
-use Rattle.fs_rules.specs.Words.{unwrap_or, is_some, option_map, Fattr, Sattr, SetTime, DontChange, ServerTime, ClientTime, Wcc}
-use Rattle.fs_rules.specs.Words.{WccAttr, Cred, FileType, Moment, Status, Perm, Acces, Inval, type_number, Inode}
+use Rattle.std.specs.Prelude.{◌==◌, ◌%◌, ◌||◌, ◌&&◌, if◌then◌else◌}
+use Rattle.fs_rules.specs.Words.{ℕ, nat_lt, Bool, true, false, not, Option, Some, None, unwrap_or, is_some, option_map, Fattr}
+use Rattle.fs_rules.specs.Words.{Sattr, SetTime, DontChange, ServerTime, ClientTime, Wcc, WccAttr, Cred, FileType, Moment, Status}
+use Rattle.fs_rules.specs.Words.{Perm, Acces, Inval, type_number, Inode}
 use Rattle.fs_rules.specs.{Limits.most_size, Rights.may, Rights.owns, Rights.is_in_group}
 
 abbrev pub is_directory : FileType → Bool

@@ -1,6 +1,7 @@
 -- The checks that procedures share. A procedure's plan is its checks in order: the first that fails decides.
-use Rattle.fs_rules.specs.Words.{◌≡◌, ℕ, Bool, true, false, not, List, Option, Some, None, Result, Ok, Err, DirOp, Body, Cred}
-use Rattle.fs_rules.specs.Words.{Status, Acces, BadHandle, Stale, NotDir, Inval, Rofs, handle_in, Place, Live}
+use Rattle.std.specs.Prelude.{◌≡◌}
+use Rattle.fs_rules.specs.Words.{ℕ, Bool, true, false, not, List, Option, Some, None, Result, Ok, Err, DirOp, Body, Cred, Status}
+use Rattle.fs_rules.specs.Words.{Acces, BadHandle, Stale, NotDir, Inval, Rofs, handle_in, Place, Live}
 use Rattle.fs_rules.specs.{Attributes.is_directory, Attributes.is_file, Names.name_fault, Places.Object, Places.object_of}
 use Rattle.fs_rules.specs.{Rights.may_search, Tree.Tree}
 

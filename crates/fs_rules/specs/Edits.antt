@@ -1,6 +1,7 @@
 -- Edits of trees, sound or not.
-use Rattle.fs_rules.specs.Words.{ℕ, ◌+◌, ◌-◌, ◌==◌, nat_lt, not, if◌then◌else◌, List, [], ◌∷◌, ◌++◌, length, take, drop}
-use Rattle.fs_rules.specs.Words.{replicate, slice_set, filter, Option, Some, None, option_map, Fattr, Moment}
+use Rattle.std.specs.Prelude.{◌+◌, ◌-◌, ◌==◌, if◌then◌else◌, ◌∷◌, ◌++◌}
+use Rattle.fs_rules.specs.Words.{ℕ, nat_lt, not, List, [], length, take, drop, replicate, slice_set, filter, Option, Some, None}
+use Rattle.fs_rules.specs.Words.{option_map, Fattr, Moment}
 use Rattle.fs_rules.specs.{Names.has_name, Tree.Node, Tree.Nodes, Tree.Tree, Tree.next_fileid}
 
 abbrev pub zeros : ℕ → List ℕ

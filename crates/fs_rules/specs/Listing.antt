@@ -1,7 +1,8 @@
 -- READDIR and READDIRPLUS (RFC 1813, sections 3.3.16 and 3.3.17).
-use Rattle.fs_rules.specs.Words.{ℕ, ◌+◌, ◌-◌, ◌*◌, ◌/◌, ◌==◌, nat_le, nat_lt, Bool, ◌||◌, ◌&&◌, min, if◌then◌else◌, List, [], ◌∷◌}
-use Rattle.fs_rules.specs.Words.{length, map, filter, replicate, bytes_eq, codes, Some, Ok, ReadDirArgs, ReadDirPlusArgs, Body}
-use Rattle.fs_rules.specs.Words.{ReadDir, ReadDirPlus, DirEntry, DirEntryPlus, Cred, Acces, BadCookie, TooSmall, Place, NameEntry}
+use Rattle.std.specs.Prelude.{◌+◌, ◌-◌, ◌*◌, ◌/◌, ◌==◌, ◌||◌, ◌&&◌, if◌then◌else◌, ◌∷◌}
+use Rattle.fs_rules.specs.Words.{ℕ, nat_le, nat_lt, Bool, min, List, [], length, map, filter, replicate, bytes_eq, codes, Some}
+use Rattle.fs_rules.specs.Words.{Ok, ReadDirArgs, ReadDirPlusArgs, Body, ReadDir, ReadDirPlus, DirEntry, DirEntryPlus, Cred}
+use Rattle.fs_rules.specs.Words.{Acces, BadCookie, TooSmall, Place, NameEntry}
 use Rattle.fs_rules.specs.Shared.{Check, ◌>>=◌, find_object, need, need_directory, refuse_if, most_listing, Object, above}
 use Rattle.fs_rules.specs.Shared.{attributes, beside, fileid_at, handle_at, names_at, shown, may_read, Tree}
 

@@ -1,9 +1,9 @@
 -- CREATE and SYMLINK, and MKDIR outside of `.snapshot` (RFC 1813, sections 3.3.8 to 3.3.10).
-use Rattle.fs_rules.specs.Words.{ℕ, ◌%◌, ◌==◌, nat_le, Bool, true, false, ◌||◌, ◌&&◌, not, if◌then◌else◌, List, [], bytes_eq}
-use Rattle.fs_rules.specs.Words.{is_some, unwrap_or, Option, Some, None, Ok, CreateArgs, CreateHow, Unchecked, Guarded, Exclusive}
-use Rattle.fs_rules.specs.Words.{MkdirArgs, SymlinkArgs, Sattr, DontChange, Create, Mkdir, Symlink, CreateOk, Cred, FileType, Reg}
-use Rattle.fs_rules.specs.Words.{Dir, Lnk, Moment, Acces, Exist, Inval, MLink, NoSpc, Perm, Inode, NameEntry, Place, Live}
-use Rattle.fs_rules.specs.Words.{CreatePlan, NewPlan}
+use Rattle.std.specs.Prelude.{◌%◌, ◌==◌, ◌||◌, ◌&&◌, if◌then◌else◌}
+use Rattle.fs_rules.specs.Words.{ℕ, nat_le, Bool, true, false, not, List, [], bytes_eq, is_some, unwrap_or, Option, Some, None}
+use Rattle.fs_rules.specs.Words.{Ok, CreateArgs, CreateHow, Unchecked, Guarded, Exclusive, MkdirArgs, SymlinkArgs, Sattr}
+use Rattle.fs_rules.specs.Words.{DontChange, Create, Mkdir, Symlink, CreateOk, Cred, FileType, Reg, Dir, Lnk, Moment, Acces}
+use Rattle.fs_rules.specs.Words.{Exist, Inval, MLink, NoSpc, Perm, Inode, NameEntry, Place, Live, CreatePlan, NewPlan}
 use Rattle.fs_rules.specs.Shared.{given, is_directory, is_file, is_too_large, time_by, Check, Row, ◌>>=◌, done, find_directory}
 use Rattle.fs_rules.specs.Shared.{need, need_place_for, need_search, no_fault, refuse_if, some_or, add_link, add_name, add_node}
 use Rattle.fs_rules.specs.Shared.{edit_node, give_number, set_size, touch, zeros, most_links, most_numbers, is_dots, target_fault}

@@ -1,6 +1,7 @@
 -- Names in directories (RFC 1813, section 3.2: the server says which names it takes).
-use Rattle.fs_rules.specs.Words.{ℕ, ◌==◌, nat_lt, Bool, false, ◌||◌, if◌then◌else◌, List, [], ◌∷◌, length, codes, bytes_eq, find}
-use Rattle.fs_rules.specs.Words.{Option, Some, None, Status, Inval, NameTooLong, NameEntry}
+use Rattle.std.specs.Prelude.{◌==◌, ◌||◌, if◌then◌else◌, ◌∷◌}
+use Rattle.fs_rules.specs.Words.{ℕ, nat_lt, Bool, false, List, [], length, codes, bytes_eq, find, Option, Some, None, Status}
+use Rattle.fs_rules.specs.Words.{Inval, NameTooLong, NameEntry}
 use Rattle.fs_rules.specs.{Limits.longest_name, Limits.longest_target}
 
 abbrev pub has_byte : ℕ → List ℕ → Bool

@@ -1,7 +1,7 @@
 -- Where handles lead, and where the names of a directory lead.
-use Rattle.fs_rules.specs.Words.{ℕ, ◌+◌, ◌-◌, ◌^◌, ◌==◌, Bool, false, ◌&&◌, if◌then◌else◌, List, [], map, length, find, Option}
-use Rattle.fs_rules.specs.Words.{Some, None, option_map, Fattr, Wcc, Handle, handle, Inode, NameEntry, Place, Live}
-use Rattle.fs_rules.specs.Words.{SnapshotDirectory, Kept}
+use Rattle.std.specs.Prelude.{◌+◌, ◌-◌, ◌^◌, ◌==◌, ◌&&◌, if◌then◌else◌}
+use Rattle.fs_rules.specs.Words.{ℕ, Bool, false, List, [], map, length, find, Option, Some, None, option_map, Fattr, Wcc, Handle}
+use Rattle.fs_rules.specs.Words.{handle, Inode, NameEntry, Place, Live, SnapshotDirectory, Kept}
 use Rattle.fs_rules.specs.{Attributes.attributes_of, Attributes.wcc_of, Names.is_dot, Names.is_dot_dot, Names.names_snapshots}
 use Rattle.fs_rules.specs.{Names.named, Tree.Node, Tree.Snapshot, Tree.Tree, Tree.root_inode}
 

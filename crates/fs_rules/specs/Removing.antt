@@ -1,7 +1,8 @@
 -- REMOVE, and RMDIR outside of `.snapshot` (RFC 1813, sections 3.3.12 and 3.3.13).
-use Rattle.fs_rules.specs.Words.{ℕ, nat_lt, Bool, ◌&&◌, if◌then◌else◌, List, length, Option, Some, None, Ok, option_and_then}
-use Rattle.fs_rules.specs.Words.{DirOp, Remove, Rmdir, Cred, Moment, Acces, Exist, Inval, IsDir, NoEnt, NotDir, NotEmpty, Inode}
-use Rattle.fs_rules.specs.Words.{Place, Live, RemovePlan}
+use Rattle.std.specs.Prelude.{◌&&◌, if◌then◌else◌}
+use Rattle.fs_rules.specs.Words.{ℕ, nat_lt, Bool, List, length, Option, Some, None, Ok, option_and_then, DirOp, Remove, Rmdir}
+use Rattle.fs_rules.specs.Words.{Cred, Moment, Acces, Exist, Inval, IsDir, NoEnt, NotDir, NotEmpty, Inode, Place, Live}
+use Rattle.fs_rules.specs.Words.{RemovePlan}
 use Rattle.fs_rules.specs.Shared.{is_directory, Check, Row, ◌>>=◌, done, find_directory, need, need_place_for, refuse_if, some_or}
 use Rattle.fs_rules.specs.Shared.{drop_link, drop_name, drop_node, edit_node, set_ctime, touch, with_node, is_dot, is_dot_dot}
 use Rattle.fs_rules.specs.Shared.{is_dots, Object, change, entry_at, fileid_at, is_snapshots_name, leads_to, names_at, may_search}

@@ -1,8 +1,9 @@
 -- RENAME and LINK (RFC 1813, sections 3.3.14 and 3.3.15).
-use Rattle.fs_rules.specs.Words.{ℕ, zero, suc, ◌+◌, ◌==◌, nat_le, Bool, true, false, ◌||◌, ◌&&◌, not, if◌then◌else◌, List}
-use Rattle.fs_rules.specs.Words.{is_none, Option, Some, None, option_map, option_and_then, Ok, Err, LinkArgs, RenameArgs, Link}
-use Rattle.fs_rules.specs.Words.{Rename, Cred, Moment, Acces, Exist, Inval, MLink, NameTooLong, NoEnt, NoSpc, Xdev, NameEntry}
-use Rattle.fs_rules.specs.Words.{Live, Climb, TooDeep, Found, Root, LinkPlan, RenamePlan, Replaced}
+use Rattle.std.specs.Prelude.{◌+◌, ◌==◌, ◌||◌, ◌&&◌, if◌then◌else◌}
+use Rattle.fs_rules.specs.Words.{ℕ, zero, suc, nat_le, Bool, true, false, not, List, is_none, Option, Some, None, option_map}
+use Rattle.fs_rules.specs.Words.{option_and_then, Ok, Err, LinkArgs, RenameArgs, Link, Rename, Cred, Moment, Acces, Exist, Inval}
+use Rattle.fs_rules.specs.Words.{MLink, NameTooLong, NoEnt, NoSpc, Xdev, NameEntry, Live, Climb, TooDeep, Found, Root, LinkPlan}
+use Rattle.fs_rules.specs.Words.{RenamePlan, Replaced}
 use Rattle.fs_rules.specs.Shared.{given, is_directory, Check, Row, ◌>>=◌, done, find_object, is_live, need, need_directory}
 use Rattle.fs_rules.specs.Shared.{need_good_name, need_live, need_search, refuse_if, some_or, add_link, add_name, drop_link}
 use Rattle.fs_rules.specs.Shared.{drop_name, edit_node, set_ctime, set_parent, touch, deepest, most_links, is_dots, Object}

@@ -1,7 +1,7 @@
 -- Who may do what (RFC 1813, section 4.4): user 0 all; the owner by the owner's bits of the mode, else a member
 -- of the group by the group's, else by the others'.
-use Rattle.fs_rules.specs.Words.{ℕ, ◌/◌, ◌%◌, ◌==◌, Bool, false, ◌||◌, if◌then◌else◌, List, [], ◌∷◌, bit_and, big_number, Cred}
-use Rattle.fs_rules.specs.Words.{Inode}
+use Rattle.std.specs.Prelude.{◌/◌, ◌%◌, ◌==◌, ◌||◌, if◌then◌else◌, ◌∷◌}
+use Rattle.fs_rules.specs.Words.{ℕ, Bool, false, List, [], bit_and, big_number, Cred, Inode}
 
 -- a word is among words of four bytes each, the highest first
 abbrev pub has_word : ℕ → List ℕ → Bool

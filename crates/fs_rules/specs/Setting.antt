@@ -1,6 +1,7 @@
 -- SETATTR (RFC 1813, section 3.3.2).
-use Rattle.fs_rules.specs.Words.{ℕ, ◌+◌, ◌==◌, nat_le, nat_lt, Bool, ◌&&◌, not, List, Option, Ok, SetAttrArgs, SetAttr, Cred}
-use Rattle.fs_rules.specs.Words.{Moment, NoSpc, NotSync, Live, SetAttrPlan}
+use Rattle.std.specs.Prelude.{◌+◌, ◌==◌, ◌&&◌}
+use Rattle.fs_rules.specs.Words.{ℕ, nat_le, nat_lt, Bool, not, List, Option, Ok, SetAttrArgs, SetAttr, Cred, Moment, NoSpc}
+use Rattle.fs_rules.specs.Words.{NotSync, Live, SetAttrPlan}
 use Rattle.fs_rules.specs.Shared.{apply_sattr, given, sattr_fault, Check, Row, ◌>>=◌, done, find_object, need_live, no_fault}
 use Rattle.fs_rules.specs.Shared.{refuse_if, edit_node, set_attributes, set_size_if, most_numbers, Object, attributes, change}
 use Rattle.fs_rules.specs.Shared.{fileid_at, Tree}

@@ -1,8 +1,9 @@
 -- MKDIR and RMDIR. In the directory `.snapshot`, MKDIR takes a snapshot and RMDIR drops one: snapshots are this
 -- service's own; their files are read as any others, and never change.
-use Rattle.fs_rules.specs.Words.{ℕ, ◌+◌, ◌==◌, nat_le, Bool, true, false, ◌||◌, not, if◌then◌else◌, List, [], ◌∷◌, ◌++◌, length}
-use Rattle.fs_rules.specs.Words.{filter, bytes_eq, is_some, DirOp, MkdirArgs, Mkdir, Rmdir, Cred, Moment, Acces, Exist, Inval}
-use Rattle.fs_rules.specs.Words.{NoEnt, NoSpc, Place, SnapshotDirectory, Kept, Times}
+use Rattle.std.specs.Prelude.{◌+◌, ◌==◌, ◌||◌, if◌then◌else◌, ◌∷◌, ◌++◌}
+use Rattle.fs_rules.specs.Words.{ℕ, nat_le, Bool, true, false, not, List, [], length, filter, bytes_eq, is_some, DirOp, MkdirArgs}
+use Rattle.fs_rules.specs.Words.{Mkdir, Rmdir, Cred, Moment, Acces, Exist, Inval, NoEnt, NoSpc, Place, SnapshotDirectory, Kept}
+use Rattle.fs_rules.specs.Words.{Times}
 use Rattle.fs_rules.specs.Shared.{Check, Row, ◌>>=◌, done, find_object, need, need_good_name, refuse_if, last_epoch}
 use Rattle.fs_rules.specs.Shared.{most_snapshots, is_dot, is_dot_dot, is_dots, change, entry_at, Tree}
 use Rattle.fs_rules.specs.{Making.make_directory, Making.told_of_new, Removing.remove_directory}

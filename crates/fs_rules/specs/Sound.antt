@@ -1,9 +1,9 @@
 -- What a sound tree is: the trees that calls make from the first one are sound. First its bounds: what holds of each
 -- node alone, of the numbers that were given, and of the snapshots. Then how the nodes hang together: names lead to
 -- nodes, each node has the names that its links count, and the parents of directories lead to the root.
-use Rattle.fs_rules.specs.Words.{◌≡◌, ◌≢◌, ⊤, ℕ, zero, suc, ◌+◌, ◌^◌, ◌%◌, ◌≤◌, ◌<◌, ◌==◌, nat_le, nat_lt, Bool, true, false}
-use Rattle.fs_rules.specs.Words.{◌||◌, ◌&&◌, All, IfSome, List, [], ◌∷◌, length, map, filter, Option, Some, None, is_some}
-use Rattle.fs_rules.specs.Words.{bytes_eq, FileType, Reg, Dir, Lnk, NameEntry, Live}
+use Rattle.std.specs.Prelude.{◌≡◌, ◌≢◌, ◌+◌, ◌^◌, ◌%◌, ◌≤◌, ◌<◌, ◌==◌, ◌||◌, ◌&&◌, ◌∷◌}
+use Rattle.fs_rules.specs.Words.{⊤, ℕ, zero, suc, nat_le, nat_lt, Bool, true, false, All, IfSome, List, [], length, map, filter}
+use Rattle.fs_rules.specs.Words.{Option, Some, None, is_some, bytes_eq, FileType, Reg, Dir, Lnk, NameEntry, Live}
 use Rattle.fs_rules.specs.Shared.{is_directory, last_epoch, longest_target, most_links, most_numbers, most_size, most_snapshots}
 use Rattle.fs_rules.specs.Shared.{is_dots, name_fault, is_snapshots_name, snapshot_entry, Node, Nodes, Tree, next_fileid}
 use Rattle.fs_rules.specs.{Renaming.parent_of}

@@ -1,7 +1,8 @@
 -- What is told of a file and of the file system: GETATTR, ACCESS, READLINK, FSSTAT, FSINFO and PATHCONF (RFC
 -- 1813, sections 3.3.1, 3.3.4, 3.3.5 and 3.3.18 to 3.3.20).
-use Rattle.fs_rules.specs.Words.{ℕ, ◌+◌, ◌^◌, Bool, true, false, ◌&&◌, not, if◌then◌else◌, bit_and, List, Some, Ok, AccessArgs}
-use Rattle.fs_rules.specs.Words.{Body, GetAttr, Access, ReadLink, FsStat, FsInfo, PathConf, Cred, Inval, Place, Kept}
+use Rattle.std.specs.Prelude.{◌+◌, ◌^◌, ◌&&◌, if◌then◌else◌}
+use Rattle.fs_rules.specs.Words.{ℕ, Bool, true, false, not, bit_and, List, Some, Ok, AccessArgs, Body, GetAttr, Access, ReadLink}
+use Rattle.fs_rules.specs.Words.{FsStat, FsInfo, PathConf, Cred, Inval, Place, Kept}
 use Rattle.fs_rules.specs.Shared.{is_directory, is_link, Check, ◌>>=◌, find_object, need, longest_name, most_links, told_transfer}
 use Rattle.fs_rules.specs.Shared.{most_size, told_listing, Object, attributes, content_at, may_read, may_search, may_write, Tree}
 

@@ -1,7 +1,7 @@
 -- READ, WRITE and COMMIT (RFC 1813, sections 3.3.6, 3.3.7 and 3.3.21).
-use Rattle.fs_rules.specs.Words.{ℕ, ◌+◌, ◌-◌, ◌==◌, nat_le, nat_lt, Bool, ◌||◌, ◌&&◌, min, List, length, take, drop, Some, Ok}
-use Rattle.fs_rules.specs.Words.{FileRange, WriteArgs, Body, Read, Write, Commit, Cred, Moment, FileSync, Acces, FBig, Inval}
-use Rattle.fs_rules.specs.Words.{Inode, Live, WritePlan}
+use Rattle.std.specs.Prelude.{◌+◌, ◌-◌, ◌==◌, ◌||◌, ◌&&◌}
+use Rattle.fs_rules.specs.Words.{ℕ, nat_le, nat_lt, Bool, min, List, length, take, drop, Some, Ok, FileRange, WriteArgs, Body}
+use Rattle.fs_rules.specs.Words.{Read, Write, Commit, Cred, Moment, FileSync, Acces, FBig, Inval, Inode, Live, WritePlan}
 use Rattle.fs_rules.specs.Shared.{Check, Row, ◌>>=◌, done, find_object, need, need_file, need_live, refuse_if, edit_node}
 use Rattle.fs_rules.specs.Shared.{write_at, most_size, most_transfer, attributes, change, content_at, fileid_at, may_read}
 use Rattle.fs_rules.specs.Shared.{may_search, may_write, owns, Tree}

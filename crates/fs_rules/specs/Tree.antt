@@ -1,7 +1,7 @@
 -- The plain tree: all that one export keeps, as plain data. A snapshot is a whole copy, and a file's content is
 -- all of its bytes (RFC 1813, sections 1.6 and 2.6; snapshots, lanes and cuts are this service's own).
-use Rattle.fs_rules.specs.Words.{ℕ, ◌==◌, if◌then◌else◌, List, [], ◌∷◌, slice_index_or, Option, Some, None, Dir, Moment, Inode}
-use Rattle.fs_rules.specs.Words.{NameEntry, Times}
+use Rattle.std.specs.Prelude.{◌==◌, if◌then◌else◌, ◌∷◌}
+use Rattle.fs_rules.specs.Words.{ℕ, List, [], slice_index_or, Option, Some, None, Dir, Moment, Inode, NameEntry, Times}
 
 pub record Node : Type 0 where
   pub inode : Inode

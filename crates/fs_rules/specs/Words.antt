@@ -1,8 +1,7 @@
 -- What definitions are said in, to be imported from one place: std's words, the types of NFS version 3, and this crate's.
-pub use Rattle.std.specs.Prelude.{◌≡◌, ◌≢◌, ⊤, ℕ, zero, suc, ◌+◌, ◌-◌, ◌*◌, ◌/◌, ◌%◌, ◌^◌, ◌≤◌, ◌<◌, nat_le, nat_lt, min, bit_and}
-pub use Rattle.std.specs.Prelude.{◌==◌, Bool, true, false, not, ◌||◌, ◌&&◌, if◌then◌else◌, List, [], ◌∷◌, ◌++◌, length, map, find}
-pub use Rattle.std.specs.Prelude.{filter, take, drop, replicate, slice_index_or, slice_set, codes, bytes_eq, Option, Some, None}
-pub use Rattle.std.specs.Prelude.{All, IfSome, is_some, is_none, unwrap_or, option_map, option_and_then, Result, Ok, Err}
+pub use Rattle.std.specs.Prelude.{⊤, ℕ, zero, suc, nat_le, nat_lt, min, bit_and, Bool, true, false, not, List, [], length, map}
+pub use Rattle.std.specs.Prelude.{find, filter, take, drop, replicate, slice_index_or, slice_set, codes, bytes_eq, Option, Some}
+pub use Rattle.std.specs.Prelude.{None, All, IfSome, is_some, is_none, unwrap_or, option_map, option_and_then, Result, Ok, Err}
 pub use Rattle.nfs3_types.specs.declared.args.{AccessArgs.AccessArgs, CreateArgs.CreateArgs, CreateHow.CreateHow, DirOp.DirOp}
 pub use Rattle.nfs3_types.specs.declared.args.{FileRange.FileRange, LinkArgs.LinkArgs, MkdirArgs.MkdirArgs}
 pub use Rattle.nfs3_types.specs.declared.args.{ReadDirArgs.ReadDirArgs, ReadDirPlusArgs.ReadDirPlusArgs, RenameArgs.RenameArgs}
