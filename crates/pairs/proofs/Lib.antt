@@ -1,0 +1,2 @@
+pub mod LivesLaws
+pub mod VersionsLaws

@@ -1,0 +1,4 @@
+pub mod Lives
+pub mod Versions
+pub mod Told
+pub mod Found
