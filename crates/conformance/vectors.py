@@ -58,6 +58,9 @@ NO_COMMANDS = [
 # Words of the command that there is, over empty input.
 COMMANDS = ["feed", "feed --"]
 
+# A peer that sends each of its three calls of NULL once it has the whole reply, of 28 bytes, to the one before.
+PEER = ("peer\n", f"peer\t0\t{3 * 28}\n")
+
 # The most bytes of one take: as many as the service asks for, one for inputs up to that size, and seven for others.
 LARGE, ONE, FEW = 4096, 1, 7
 
@@ -118,6 +121,7 @@ def main():
     lines = [line for row in rows if row["name"] not in left_out for line in cases(folder, row)]
     lines += [refused(words) for words in NO_COMMANDS]
     lines += [(f"words/{words}\t{words}\t{LARGE}\t\t\t\n", f"words/{words}\t0\t\t\n") for words in COMMANDS]
+    lines.append(PEER)
     crate = pathlib.Path(__file__).resolve().parent
     for file, column in [("stdin", 0), ("stdout", 1)]:
         (crate / file).write_text("".join(line[column] for line in lines), encoding="utf-8", newline="\n")
