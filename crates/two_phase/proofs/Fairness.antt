@@ -1,5 +1,6 @@
 -- A command that was doubted may be asked again.
-use Rattle.std.proofs.Common.{◌≡◌, ℕ, zero, suc, ◌==◌, if◌then◌else◌, ap, List, [], ◌∷◌, ◌++◌, Option, Some, None, refl, sym, ◌∙◌, subst, inl}
+use Rattle.std.proofs.Common.{◌≡◌, ℕ, zero, suc, ◌==◌, if◌then◌else◌, ap, List, ◌∷◌, ◌++◌, Option, Some, None, refl, sym}
+use Rattle.std.proofs.Common.{◌∙◌, subst, inl}
 use mathlib.Core.Path.{fun_ext}
 use Rattle.pair_types.specs.PageMaps.{PageMap}
 use Rattle.nfs3_types.specs.declared.entry.Entry.{Entry}

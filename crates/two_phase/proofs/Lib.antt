@@ -1,3 +1,14 @@
 pub mod Basics
 pub mod Fairness
 pub mod Onwards
+pub mod Ended
+pub mod Preparing
+pub mod Effects
+pub mod Freshness
+pub mod Committing
+pub mod Refusing
+pub mod Meeting
+pub mod Concluding
+pub mod Several
+pub mod Alone
+pub mod Acting

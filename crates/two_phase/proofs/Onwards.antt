@@ -1,5 +1,5 @@
 -- Steps one after the other.
-use Rattle.std.proofs.Common.{◌≡◌, ℕ, zero, suc, ◌+◌, ◌-◌, ◌^◌, ◌<◌, ◌≤◌, min, Bool, true, false, List, [], ◌∷◌, ◌++◌, length}
+use Rattle.std.proofs.Common.{◌≡◌, ℕ, suc, ◌<◌, ◌≤◌, false, List, [], ◌∷◌, ◌++◌, length}
 use Rattle.std.proofs.Common.{Option, Some, None, Result, Ok, Err, refl, ap, sym, ◌∙◌, subst, arith, inl, inr, ◌⊎◌}
 use Rattle.std.specs.List.{list_any}
 use Rattle.pair_types.specs.PageMaps.{PageMap}
@@ -10,11 +10,11 @@ use Rattle.nfs3_types.specs.Count.{Rose}
 use Rattle.page_types.specs.declared.command.Command.{Command}
 use Rattle.page_types.specs.declared.answer.Answer.{Answer}
 use Rattle.page_types.specs.declared.journal.JEntry.{JEntry}
-use Rattle.page_types.specs.declared.journal.JEntry.TheVariants.{Took, Doubted, Late}
+use Rattle.page_types.specs.declared.journal.JEntry.TheVariants.{Took, Doubted}
 use Rattle.page_types.specs.Journals.{Origin}
 use Rattle.page_types.specs.Fair.{IsFair}
-use Rattle.page_types.specs.Ports.{PortState, IsPort, IsAnswer, Grew, Steps, MayAsk, IsDoubted, Gains}
-use Rattle.two_phase.specs.Tries.{is_doubted, Onward, doubted, Tried, Missed, Ends, Retries}
+use Rattle.page_types.specs.Ports.{PortState, IsAnswer, Grew, Steps, MayAsk, IsDoubted}
+use Rattle.two_phase.specs.Tries.{is_doubted, Onward, doubted, Retries}
 use Rattle.two_phase.proofs.Basics.{join_assoc, any_join}
 use Rattle.two_phase.proofs.Fairness.{again_times}
 

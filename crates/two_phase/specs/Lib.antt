@@ -1,1 +1,5 @@
 pub mod Tries
+pub mod Endings
+pub mod Parts
+pub mod Commits
+pub mod Once

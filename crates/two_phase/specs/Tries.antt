@@ -59,3 +59,17 @@ pub record Retries (old new : PortState) (store : ℕ) (command : Command) (resu
   pub part : List JEntry
   pub onward : Onward old new part
   pub ends : Ends old new store command result part
+
+-- a command was doubted eight times in a row, in the newest entries of a part
+pub record DoubtedOut (old new : PortState) (part : List JEntry) : Type 0 where
+  pub store : ℕ
+  pub command : Command
+  pub earlier : List JEntry
+  pub is : part ≡ doubted 8 (Doubted old.pass store command) ++ earlier
+  pub rose : Rose old.doubts new.doubts
+
+-- Why a call of several steps gave up: one command was doubted eight times in a row, memory lacked, or a step was stopped.
+abbrev pub IsCause : PortState → PortState → StepFault → List JEntry → Type 0
+IsCause old new fault.Doubt part = DoubtedOut old new part
+IsCause old new fault.NoMemory part = ⊤
+IsCause old new fault.Stopped part = Rose old.stops new.stops

@@ -1,0 +1,3 @@
+pub mod KeyLaws
+pub mod InodeLaws
+pub mod Strict
