@@ -12,3 +12,4 @@ pub mod Concluding
 pub mod Several
 pub mod Alone
 pub mod Acting
+pub mod Completing

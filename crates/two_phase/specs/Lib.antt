@@ -3,3 +3,4 @@ pub mod Endings
 pub mod Parts
 pub mod Commits
 pub mod Once
+pub mod Complete

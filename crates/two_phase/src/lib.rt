@@ -28,7 +28,7 @@ pub use closing::Commit;
 pub use commits::commit;
 pub use crossing::met;
 pub use endings::{decide, finish, resolve_all};
-pub use laws::acts_once;
+pub use laws::{acts_once, commits_are_complete};
 pub use parts::Part;
 pub use prepares::{Preparation, prepare_all};
 pub use tries::retry;
