@@ -1,0 +1,9 @@
+pub mod Lists
+pub mod Within
+pub mod Told
+pub mod Entries
+pub mod Counting
+pub mod Growing
+pub mod Assembling
+pub mod Beginning
+pub mod Porting

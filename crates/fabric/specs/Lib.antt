@@ -1,0 +1,6 @@
+pub mod Settled
+pub mod Within
+pub mod Shown
+pub mod Stepping
+pub mod Taking
+pub mod Keeping
