@@ -4,8 +4,10 @@
 //!
 //! `measure btree N` inserts N records into a tree in memory and seeks each; `measure paxos REPLICAS
 //! BYTES N` appends N commands that each write a page of so many bytes to a group in calm weather, or N
-//! `Fresh` where BYTES is 0; `measure wire N` reads and writes N mixed calls and replies in memory. Each
-//! prints a line for a figure. Any other words are answered by a line on standard error and status 1.
+//! `Fresh` where BYTES is 0; `measure stores WHAT REPLICAS N` asks N times of stores behind replicas what
+//! WHAT says: `fresh`, `read`, `look`, `write`, or `commit1`, `commit2`, `commit4`, a commit over so many
+//! stores; `measure wire N` reads and writes N mixed calls and replies in memory. Each prints a line for a
+//! figure. Any other words are answered by a line on standard error and status 1.
 #![tactic(auto)]
 
 mod btree;
@@ -13,6 +15,7 @@ mod counted;
 mod keys;
 mod paxos;
 mod samples;
+mod stores;
 mod wire;
 
 use anyhow::{Result, bail};
@@ -45,8 +48,13 @@ fn run(rt: &impl Print, alloc: Global, words: &[String]) -> Result<()> {
         [word, replicas, bytes, count] if word.as_str() == "paxos" => {
             paxos::measure(rt, alloc, number(replicas)?, number(bytes)?, number(count)?)
         }
+        [word, what, replicas, count] if word.as_str() == "stores" => {
+            stores::measure(rt, alloc, what, number(replicas)?, number(count)?)
+        }
         [word, count] if word.as_str() == "wire" => wire::measure(rt, alloc, number(count)?),
-        _ => bail!("usage: measure btree N | measure paxos REPLICAS BYTES N | measure wire N"),
+        _ => bail!(
+            "usage: measure btree N | measure paxos REPLICAS BYTES N | measure stores WHAT REPLICAS N | measure wire N"
+        ),
     }
 }
 
