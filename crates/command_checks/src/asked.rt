@@ -1,7 +1,9 @@
 //! The first calls of a number, of which no reply is told.
 
 use anyhow::{Result, bail, ensure};
-use nfs3_types::{CallOver, CreateArgs, CreateHow, Handle, OwnCall, Text, WriteArgs};
+use nfs3_types::{
+    CallOver, CreateArgs, CreateHow, FileRange, Handle, OwnCall, ReadDirPlusArgs, Text, WriteArgs,
+};
 use std::alloc::Global;
 use workload::Driver;
 
@@ -47,31 +49,47 @@ fn create_text(alloc: Global, args: &CreateArgs<Text>) -> Result<String> {
     }
 }
 
+/// A READ: where it reads, and how much.
+fn read_text(alloc: Global, range: &FileRange<Text>) -> Result<String> {
+    let file = handle_text(alloc, &range.file)?;
+    Ok(format!(in alloc; "READ {file} {} {}", range.offset, range.count)?)
+}
+
+/// A GETATTR.
+fn attributes_text(alloc: Global, object: &Text) -> Result<String> {
+    let object = handle_text(alloc, object)?;
+    Ok(format!(in alloc; "GETATTR {object}")?)
+}
+
+/// A READDIRPLUS: where it goes on, and how much it may answer.
+fn listing_text(alloc: Global, args: &ReadDirPlusArgs<Text>) -> Result<String> {
+    let directory = handle_text(alloc, &args.directory)?;
+    let (cookie, dircount, maxcount) = (args.cookie, args.dircount, args.maxcount);
+    Ok(format!(in alloc; "READDIRPLUS {directory} {cookie} {dircount} {maxcount}")?)
+}
+
 /// What is said of a call.
 fn call_text(alloc: Global, call: &OwnCall) -> Result<String> {
     match call {
-        CallOver::GetAttr(object) => {
-            let object = handle_text(alloc, object)?;
-            Ok(format!(in alloc; "GETATTR {object}")?)
-        }
+        CallOver::GetAttr(object) => attributes_text(alloc, object),
         CallOver::Lookup(place) => place_text(alloc, "LOOKUP", &place.directory, &place.name),
         CallOver::Remove(place) => place_text(alloc, "REMOVE", &place.directory, &place.name),
         CallOver::Mkdir(args) => {
             place_text(alloc, "MKDIR", &args.place.directory, &args.place.name)
         }
         CallOver::Create(args) => create_text(alloc, args),
-        CallOver::Read(range) => {
-            let file = handle_text(alloc, &range.file)?;
-            Ok(format!(in alloc; "READ {file} {} {}", range.offset, range.count)?)
-        }
+        CallOver::Read(range) => read_text(alloc, range),
         CallOver::Write(args) => write_text(alloc, args),
-        CallOver::ReadDirPlus(args) => {
-            let directory = handle_text(alloc, &args.directory)?;
-            let (cookie, dircount, maxcount) = (args.cookie, args.dircount, args.maxcount);
-            Ok(format!(in alloc; "READDIRPLUS {directory} {cookie} {dircount} {maxcount}")?)
-        }
+        CallOver::ReadDirPlus(args) => listing_text(alloc, args),
         _ => bail!("the workload has no such call"),
     }
+}
+
+/// What is said of the driver's next call.
+fn next_text(alloc: Global, driver: &mut Driver) -> Result<String> {
+    ensure!(driver.has_next(), "there is no further call");
+    let call = driver.next_call(alloc)?;
+    call_text(alloc, &call)
 }
 
 /// The first calls of the number, with commas between them.
@@ -79,12 +97,11 @@ pub fn told(alloc: Global, number: u64, count: u32) -> Result<String> {
     let mut driver = Driver::new(alloc, number, 0)?;
     let mut text = String::new(alloc);
     for k in 0..count {
-        ensure!(driver.has_next(), "there is no further call");
-        let call = driver.next_call(alloc)?;
         if 0 < k {
             text.push_str(", ")?;
         }
-        text.push_str(&call_text(alloc, &call)?)?;
+        let next = next_text(alloc, &mut driver)?;
+        text.push_str(&next)?;
     }
     Ok(text)
 }
