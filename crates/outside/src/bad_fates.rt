@@ -14,7 +14,7 @@ const PLACES: usize = (MOST_STORES * MOST_REPLICAS + 1) as usize;
 /// How many bad fates the messages of each store and replica met. Those that are not below the
 /// limits share one count. A contract sees the counts in their places. It takes no memory.
 #[derive(Debug, Drop)]
-pub(crate) struct BadFates {
+pub struct BadFates {
     counts: [u64; PLACES],
 }
 
@@ -41,7 +41,7 @@ fn place_of(store: u32, replica: u32) -> usize
 
 impl BadFates {
     /// No bad fate yet.
-    pub(crate) fn new() -> BadFates
+    pub fn new() -> BadFates
         ensures empty { result ≡ no_counts }
         ensures none { (store replica : ℕ) → counts_at result store replica ≡ 0 }
     {
@@ -51,7 +51,7 @@ impl BadFates {
     }
 
     /// Counts the fate of a message, where it is bad.
-    pub(crate) fn count(&mut self, message: MessageName, fate: Fate)
+    pub fn count(&mut self, message: MessageName, fate: Fate)
         ensures exact { self.new ≡ counted self.old message fate }
         ensures counts { Counts (counts_at self.old) (counts_at self.new) message fate }
     {
@@ -62,7 +62,7 @@ impl BadFates {
     }
 
     /// How many bad fates the messages of a store and a replica met.
-    pub(crate) fn count_of(&self, store: u32, replica: u32) -> u64
+    pub fn count_of(&self, store: u32, replica: u32) -> u64
         ensures { result ≡ counts_at self.now store replica }
     {
         self.counts[place_of(store, replica)]

@@ -27,6 +27,7 @@ mod takes;
 mod wall_clock;
 mod weather;
 
+pub use bad_fates::BadFates;
 pub use calm::Calm;
 pub use clock::Clock;
 pub use failed::Failed;

@@ -3,8 +3,8 @@
 ghost use Rattle.std.specs.Prelude.{◌≡◌, IfOk, option_copied, unwrap_or};
 ghost use Rattle.page_store.specs.Keeps.{stranger};
 
-use nfs3_types::{Copies, Entry, ListOf, NoMemory};
-use page_types::{Outcome, Shared};
+use nfs3_types::{Copies, ListOf, NoMemory};
+use page_types::{Outcome, copy_numbers};
 use pair_types::Tid;
 use std::alloc::Global;
 
@@ -50,13 +50,6 @@ pub(crate) fn copy_outcome(
     }
 }
 
-/// An equal list of numbers.
-pub(crate) fn copy_numbers(alloc: Global, numbers: &ListOf<u64>) -> Result<ListOf<u64>, NoMemory>
-    ensures { IfOk result (λ copy. copy ≡ numbers.now) }
-{
-    Ok(ListOf::from_vec(Vec::from_slice(alloc, numbers.as_slice())?))
-}
-
 /// An equal party, or a stranger.
 pub(crate) fn copy_party(alloc: Global, party: Option<&Party>) -> Result<Party, NoMemory>
     ensures { IfOk result (λ copy. copy ≡ unwrap_or (option_copied party.entry) stranger) }
@@ -68,18 +61,5 @@ pub(crate) fn copy_party(alloc: Global, party: Option<&Party>) -> Result<Party, 
             numbers: copy_numbers(alloc, &party.numbers)?,
         }),
         None => Ok(Party::stranger(alloc)),
-    }
-}
-
-/// The same entry, shared, where there is one.
-pub(crate) fn copy_entry(
-    alloc: Global,
-    entry: &Option<Shared<Entry>>,
-) -> Result<Option<Shared<Entry>>, NoMemory>
-    ensures { IfOk result (λ copy. copy ≡ entry.now) }
-{
-    match entry {
-        Some(entry) => Ok(Some(entry.copy(alloc)?)),
-        None => Ok(None),
     }
 }

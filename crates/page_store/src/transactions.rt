@@ -13,11 +13,13 @@ ghost use Rattle.page_store.specs.Changes.{write_change, hold_change, settled_wr
 
 use crate::holds::content_of;
 use crate::look::View;
-use crate::party::{Involved, Party, copy_entry, copy_party};
+use crate::party::{Involved, Party, copy_party};
 use crate::patch::{Patch, Step};
 use crate::row::{Change, held_row, written_row};
 use nfs3_types::{Copies, ListOf, NoMemory};
-use page_types::{Answer, Decision, Hold, Outcome, PageRead, PageWrite, Part, Shared, Transaction};
+use page_types::{
+    Answer, Decision, Hold, Outcome, PageRead, PageWrite, Part, Shared, Transaction, copy_entry,
+};
 use pair_types::Tid;
 use std::alloc::Global;
 

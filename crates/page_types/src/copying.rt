@@ -7,7 +7,7 @@ use nfs3_types::{Copies, Entry, ListOf, NoMemory};
 use std::alloc::Global;
 
 /// The same entry, shared, where there is one.
-pub(crate) fn copy_entry(
+pub fn copy_entry(
     alloc: Global,
     entry: &Option<Shared<Entry>>,
 ) -> Result<Option<Shared<Entry>>, NoMemory>
@@ -20,7 +20,7 @@ pub(crate) fn copy_entry(
 }
 
 /// An equal list of numbers.
-pub(crate) fn copy_numbers(alloc: Global, numbers: &ListOf<u64>) -> Result<ListOf<u64>, NoMemory>
+pub fn copy_numbers(alloc: Global, numbers: &ListOf<u64>) -> Result<ListOf<u64>, NoMemory>
     ensures { IfOk result (λ copy. copy ≡ numbers.now) }
 {
     Ok(ListOf::from_vec(Vec::from_slice(alloc, numbers.as_slice())?))

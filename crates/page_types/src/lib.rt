@@ -29,6 +29,7 @@ mod versions;
 
 pub use answer::Answer;
 pub use command::{Command, Decision, Part, Resolution, Transaction};
+pub use copying::{copy_entry, copy_numbers};
 pub use fused_port::FusedPort;
 pub use hold::{Hold, WriteHold};
 pub use journal::{JEntry, Journaled};

@@ -1,10 +1,8 @@
 -- What a contract sees of an acceptor: whose it is, and what it keeps at each index.
-use Rattle.std.specs.Prelude.{ℕ, unwrap_or}
-use Rattle.std.specs.Ordering.{nat_cmp}
-use Rattle.std.specs.BTreeMap.{get}
+use Rattle.std.specs.Prelude.{ℕ}
 use Rattle.paxos_core.specs.declared.acceptor.Standing.{Standing}
 use Rattle.paxos_core.specs.declared.acceptor.Acceptor.{Acceptor}
-use Rattle.paxos_core.specs.Standing.{blank}
+use Rattle.paxos_core.specs.Standing.{row_at}
 
 module _ {V : Type 0} where
   -- the replica's number
@@ -13,4 +11,4 @@ module _ {V : Type 0} where
 
   -- what it keeps at the index
   abbrev pub standing_of : Acceptor V → ℕ → Standing V
-  standing_of a i = unwrap_or (get nat_cmp a.rows i) blank
+  standing_of a i = row_at a.rows.items i

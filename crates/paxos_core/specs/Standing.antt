@@ -1,5 +1,5 @@
 -- What an acceptor keeps at an index, what a message makes of it, and what the acceptor answers.
-use Rattle.std.specs.Prelude.{ℕ, ◌==◌, if◌then◌else◌, Option, Some, None, ⊤}
+use Rattle.std.specs.Prelude.{ℕ, ◌==◌, if◌then◌else◌, List, slice_get, Option, Some, None, unwrap_or, ⊤}
 use Rattle.paxos_core.specs.declared.ballot.Ballot.{Ballot}
 use Rattle.paxos_core.specs.declared.message.Message.{Message}
 use Rattle.paxos_core.specs.declared.message.Message.TheVariants.{Ask, Promise, Put, Ack, Nack}
@@ -10,6 +10,10 @@ module _ {V : Type 0} where
   -- nothing promised and nothing accepted
   abbrev pub blank : Standing V
   blank = record { promised = record { round = 0; proposer = 0 }; accepted = None }
+
+  -- what rows have for an index: none is there where nothing was promised or accepted
+  abbrev pub row_at : List (Standing V) → ℕ → Standing V
+  row_at rows i = unwrap_or (slice_get rows i) blank
 
   -- the index that a message is about
   abbrev pub index_of : Message V → ℕ

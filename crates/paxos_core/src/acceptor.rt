@@ -1,12 +1,12 @@
 //! The acceptor of one replica.
 
-ghost use Rattle.std.specs.Prelude.{◌≡◌, ◌≢◌, ℕ, ◌<◌, ◌↔◌, if◌then◌else◌, IsNone, IsSomeAnd, MatchOption, IfOk, OnOk, OnErr};
+ghost use Rattle.std.specs.Prelude.{◌≡◌, ◌≢◌, ℕ, ◌<◌, ◌↔◌, if◌then◌else◌, length, IsNone, IsSomeAnd, MatchOption, IfOk, OnOk, OnErr};
+ghost use Rattle.paxos_core.specs.Standing.{row_at};
 
 use crate::ballot::Ballot;
 use crate::message::{Message, accepted_copy};
 use nfs3_types::{Copies, NoMemory};
 use std::alloc::Global;
-use std::collections::BTreeMap;
 
 /// What an acceptor keeps at one index.
 #[derive(Debug, PartialEq, Eq, Drop)]
@@ -18,11 +18,31 @@ pub struct Standing<V> {
     pub accepted: Option<(Ballot, V)>,
 }
 
-/// The acceptor of one replica, at every index.
+/// The acceptor of one replica, at every index. It has a row for each index up to the highest that it promised or accepted
+/// anything at, since a log has no gaps.
 #[derive(Debug, Drop)]
 pub struct Acceptor<V> {
     replica: u32,
-    rows: BTreeMap<u64, Standing<V>>,
+    rows: Vec<Standing<V>>,
+}
+
+/// Has a row for this index, and for each before it. A new one is blank.
+fn reach<V: Copies>(rows: &mut Vec<Standing<V>>, index: u64) -> Result<usize, NoMemory>
+    ensures place { IfOk result (λ place. place ≡ index) }
+    ensures there { OnOk result (index < length rows.new.items) }
+    ensures same { (i : ℕ) → row_at rows.new.items i ≡ row_at rows.old.items i }
+{
+    let place = index as usize;
+    while rows.len() <= place {
+        rows.push(Standing {
+            promised: Ballot {
+                round: 0,
+                proposer: 0,
+            },
+            accepted: None,
+        })?;
+    }
+    Ok(place)
 }
 
 impl<V: Copies> Acceptor<V> {
@@ -38,7 +58,7 @@ impl<V: Copies> Acceptor<V> {
     {
         Acceptor {
             replica,
-            rows: BTreeMap::new(alloc),
+            rows: Vec::new(alloc),
         }
     }
 
@@ -75,7 +95,7 @@ impl<V: Copies> Acceptor<V> {
         ensures { MatchOption result (standing_of self.now index ≡ blank)
             (λ standing. standing.now ≡ standing_of self.now index) }
     {
-        self.rows.get(&index)
+        self.rows.get(index as usize)
     }
 
     /// The refusal of a ballot at the index, where a higher one was promised.
@@ -143,17 +163,8 @@ impl<V: Copies> Acceptor<V> {
         ensures stays { OnErr result ((i : ℕ) → standing_of self.new i ≡ standing_of self.old i) }
         ensures replica { replica_of self.new ≡ replica_of self.old }
     {
-        if let Some(standing) = self.rows.get_mut(&index) {
-            standing.promised = ballot;
-            return Ok(());
-        }
-        self.rows.insert(
-            index,
-            Standing {
-                promised: ballot,
-                accepted: None,
-            },
-        )?;
+        let place = reach(&mut self.rows, index)?;
+        self.rows[place].promised = ballot;
         Ok(())
     }
 
@@ -177,13 +188,11 @@ impl<V: Copies> Acceptor<V> {
             return Ok(Some(nack));
         }
         let kept = value.copy(alloc)?;
-        self.rows.insert(
-            index,
-            Standing {
-                promised: ballot,
-                accepted: Some((ballot, kept)),
-            },
-        )?;
+        let place = reach(&mut self.rows, index)?;
+        self.rows[place] = Standing {
+            promised: ballot,
+            accepted: Some((ballot, kept)),
+        };
         Ok(Some(Message::Ack {
             replica: self.replica,
             index,

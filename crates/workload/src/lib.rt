@@ -14,7 +14,6 @@
 //! ```
 #![tactic(auto)]
 
-mod bad_fates;
 mod calls;
 mod choice;
 mod driver;

@@ -6,9 +6,8 @@ ghost use Rattle.outside.specs.Weather.{MetFate, MetNone};
 ghost use Rattle.workload.specs.Draws.{draw_of, drawn};
 ghost use Rattle.workload.specs.Rough.{IsClear, after_stray, drawn_fate, fate_of, met, rough_told, state_after, stray_of};
 
-use crate::bad_fates::BadFates;
 use crate::choice::{draw_of, drawn};
-use outside::{Fate, MessageName, Weather};
+use outside::{BadFates, Fate, MessageName, Weather};
 use std::marker::Model;
 
 /// A weather that loses each message to or from a replica numbered below `lost`, in every store, and
