@@ -13,7 +13,5 @@
 #![tactic(auto)]
 
 mod replaying;
-#[cfg(test)]
-mod tests;
 
 pub use replaying::{are_in_lanes, replay};

@@ -1,4 +1,6 @@
-use crate::{are_in_lanes, replay};
+//! A history of calls, replayed: one of them found no room.
+
+use history_replay::{are_in_lanes, replay};
 use nfs3_types::{
     Body, CallOver, Cred, DirOp, Entry, Handle, MkdirArgs, Moment, OwnCall, Reply, Sattr, SetTime,
     Status, Text,
