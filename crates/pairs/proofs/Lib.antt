@@ -1,2 +1,3 @@
 pub mod LivesLaws
+pub mod RecordsLaws
 pub mod VersionsLaws

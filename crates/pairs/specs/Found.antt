@@ -1,5 +1,5 @@
 -- What look-ups and purges answer, of the versions that are shown.
-use Rattle.std.specs.Prelude.{ℕ, ◌≡◌, ◌≢◌, ◌+◌, ◌%◌, min, List, ◌++◌, length, take, drop, Option, Some, None}
+use Rattle.std.specs.Prelude.{ℕ, ◌≡◌, ◌≢◌, ◌+◌, ◌%◌, min, List, [], ◌++◌, length, take, drop, Option, Some, None}
 use Rattle.std.specs.Ordering.{nat_cmp}
 use Rattle.std.specs.Cmp.Lexicographic.{slice_cmp}
 use Rattle.std.specs.declared.cmp.Ordering.TheVariants.{Less, Greater}
@@ -45,6 +45,11 @@ pub record IsSpent (kept from : List ℕ) (q : Quad) (v : Versions) : Type 0 whe
   pub life : spent kept (v.lives q.key) ≡ Some (life_of q)
   pub first : NoneSpent kept from q.key v
 
+-- where a purge from one key on may stop: none was found before this key, and this one has a record
+pub record StopsAt (kept from key : List ℕ) (v : Versions) : Type 0 where
+  pub none : NoneSpent kept from key v
+  pub lives : v.lives key ≢ []
+
 module _ {S W : Type 0} (told : PairsTold S W) (old new : S) (kept from : List ℕ) where
   -- the first record that is dead and unseen is gone
   pub record Takes (q : Quad) : Type 0 where
@@ -58,7 +63,7 @@ module _ {S W : Type 0} (told : PairsTold S W) (old new : S) (kept from : List �
   -- a purge that may stop: it gets on
   abbrev pub PurgesSome : Purged → Type 0
   PurgesSome (Took q) = Takes q
-  PurgesSome (Stopped key) = IsBefore from key × Tells told old new (NoneSpent kept from key)
+  PurgesSome (Stopped key) = IsBefore from key × Tells told old new (StopsAt kept from key)
   PurgesSome Ended = Tells told old new (AllKept kept from)
 
 -- a slot holds this block, whose bytes stand in the room from now on, as many as it has room for

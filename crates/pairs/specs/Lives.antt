@@ -2,6 +2,7 @@
 use Rattle.std.specs.Prelude.{ℕ, ◌≡◌, ◌⊎◌, ◌<◌, ◌≤◌, ◌==◌, nat_le, nat_lt, Bool, not, ◌&&◌, if◌then◌else◌, List, [], ◌∷◌}
 use Rattle.std.specs.Prelude.{Option, Some, None, ⊤}
 use Rattle.std.specs.List.{list_any}
+use Rattle.std.specs.Str.{bytes_eq}
 use Rattle.pair_types.specs.declared.quad.Quad.{Quad}
 use Rattle.pairs.specs.declared.at.At.{At}
 use Rattle.pairs.specs.declared.at.At.TheVariants.{Live, Snap}
@@ -64,6 +65,11 @@ purge_life kept (l ∷ ls) = if is_spent kept l then ls else l ∷ purge_life ke
 -- the life that a record tells
 abbrev pub life_of : Quad → Life
 life_of q = record { birth = q.birth; death = q.death; value = q.value }
+
+-- the lives of a key, in the order of the records that tell them
+abbrev pub lives_of : List Quad → List ℕ → List Life
+lives_of [] key = []
+lives_of (q ∷ qs) key = if bytes_eq q.key key then life_of q ∷ lives_of qs key else lives_of qs key
 
 -- Lives one after another from a birth on, each born before it dies, up to this epoch; the last may live.
 unfoldable pub AreLives : ℕ → ℕ → List Life → Type 0

@@ -2,7 +2,7 @@
 
 ghost use Rattle.std.specs.Prelude.{◌≡◌, ◌<◌, ◌≤◌, ⊤, ℕ, List, [], length, Some, None, IfOk, OnOk, IfErr};
 ghost use Rattle.pairs.specs.Versions.{Versions, IsBlock, with_block};
-ghost use Rattle.pairs.specs.Told.{Goes, Finds, Tells, Moves, GivesUp};
+ghost use Rattle.pairs.specs.Told.{Goes, Tells, Moves, GivesUp};
 ghost use Rattle.pairs.specs.Found.{Fills, IsFresh};
 
 use crate::pairs::Pairs;
@@ -34,7 +34,8 @@ pub trait Blocks: Pairs {
     fn fresh_block(&mut self, file: u64, index: u64) -> Result<Slot, PairFault>
         ensures goes { Goes Self.told self.old self.new 0 }
         ensures ok { IfOk result (λ s. Moves Self.told self.old self.new (λ _. ⊤) (with_block s (Some []))) }
-        ensures fresh { IfOk result (λ s. Finds Self.told self.old self.new (IsFresh file index s)) }
+        ensures fresh { IfOk result (λ s. (w : Self.World) (v : Versions)
+            → Self.told.agrees self.new w → Self.told.shows self.old w v → IsFresh file index s v) }
         ensures fault { IfErr result (GivesUp Self.told self.old self.new (λ _. ⊤)) };
 
     /// Lets a block go: its slot has none.

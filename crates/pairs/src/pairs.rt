@@ -60,8 +60,8 @@ pub trait Pairs {
         ensures ok { IfOk result (Purges told self.old self.new kept.now from.now) }
         ensures fault { IfErr result (GivesUp told self.old self.new HasLives) };
 
-    /// The same, but it may stop behind so many leaves: then none was found before the key that it answers, which lies
-    /// behind the one from which it began.
+    /// The same, but it may stop behind so many leaves: then none was found before the key that it answers, which has a
+    /// record and lies behind the one from which it began.
     fn purge_some(&mut self, kept: &[u64], from: &[u8], leaves: u32) -> Result<Purged, PairFault>
         ensures goes { Goes told self.old self.new 0 }
         ensures ok { IfOk result (PurgesSome told self.old self.new kept.now from.now) }
