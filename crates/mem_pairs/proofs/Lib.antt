@@ -1,0 +1,6 @@
+mod BlocksLaws
+mod EditsLaws
+mod PlacesLaws
+mod ReadsLaws
+mod ScansLaws
+mod ShownLaws

@@ -1,0 +1,4 @@
+pub mod Blocks
+pub mod Purging
+pub mod Scans
+pub mod Shown
