@@ -1,0 +1,15 @@
+pub mod Blocking
+pub mod Causes
+pub mod Changes
+pub mod Ending
+pub mod Finding
+pub mod Moves
+pub mod Nexts
+pub mod OneKey
+pub mod Putting
+pub mod Records
+pub mod Rising
+pub mod Rooting
+pub mod Spending
+pub mod Telling
+pub mod Turning

@@ -1,0 +1,14 @@
+use Rattle.birth_death.proofs.Causes.{put-cause-weaker}
+use Rattle.birth_death.proofs.edits.replace_there.Goals as goal
+
+pub returns-in-Ok-true-clause-replaced : goal.returns-in-Ok-true-clause-replaced
+returns-in-Ok-true-clause-replaced g c = c.in-Ok-true.ensures.replaced c.in-Ok-true.field-0-test
+
+pub returns-in-Ok-false-clause-fault : goal.returns-in-Ok-false-clause-fault
+returns-in-Ok-false-clause-fault g c = λ under agrees quads slots formed has.
+    has ((c.in-Ok-false.ensures.lacking c.in-Ok-false.field-0-test).lacks under agrees quads slots formed)
+
+pub returns-in-Err-clause-fault : goal.returns-in-Err-clause-fault
+returns-in-Err-clause-fault g c =
+    put-cause-weaker (g.G.Pages.state c.args.pages.now) (g.G.Pages.state c.replace.new.pages) _ _ c.in-Err.fault
+    (λ none under agrees quads slots formed has. none under agrees quads slots formed tt) c.in-Err.ensures.fault

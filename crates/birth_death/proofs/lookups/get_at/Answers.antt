@@ -1,0 +1,8 @@
+use Rattle.std.proofs.Common.{sym, ◌∙◌}
+use Rattle.birth_death.proofs.Finding.{value-seen}
+use Rattle.birth_death.proofs.lookups.get_at.Goals as goal
+
+pub returns-in-Ok-clause-found : goal.returns-in-Ok-clause-found
+returns-in-Ok-clause-found g c = λ under v agrees shows has.
+    value-seen c.args.at (v.lives c.args.key.now) c.in-Ok.found (c.in-Ok.ensures.found under v agrees shows has)
+    ∙ sym c.value_of.ensures

@@ -1,0 +1,5 @@
+pub mod Changes
+pub mod Quads
+pub mod Roots
+pub mod Shows
+pub mod Walks
