@@ -1,3 +1,4 @@
 pub mod KeyLaws
 pub mod InodeLaws
 pub mod Strict
+pub mod ValueLaws

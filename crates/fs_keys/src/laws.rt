@@ -5,6 +5,9 @@ ghost use Rattle.xdr_grammar.specs.Laws.{AreBytes, Laws};
 ghost use Rattle.fs_keys.specs.declared.inode.Inode.{Inode};
 ghost use Rattle.fs_keys.specs.Keys.{Parts, HasBounds, key_of, parts_of};
 ghost use Rattle.fs_keys.specs.Inodes.{Fits, head, inode_of, value_of};
+ghost use Rattle.fs_keys.specs.declared.rows.CookieRow.{CookieRow};
+ghost use Rattle.fs_keys.specs.Values.{first, name, extent, times, longest_name, cookie_value, cookie_in};
+ghost use Rattle.xdr_grammar.specs.Items.{hyper};
 
 /// Keys and what they say undo one another: so two keys of one row differ where their parts do, and keys of two rows do.
 pub fn keys_tell_their_parts()
@@ -21,4 +24,14 @@ pub fn values_tell_their_inodes()
     ensures found { (value : List ℕ) (inode : Inode) → AreBytes value → inode_of value ≡ Some inode → value_of inode ≡ value }
     ensures fits { (value : List ℕ) (inode : Inode) → AreBytes value → inode_of value ≡ Some inode → Fits inode }
     ensures short { (inode : Inode) → Fits inode → length (value_of inode) ≤ 1113 }
+{}
+
+/// The values of the other records undo one another with what they say.
+pub fn values_tell_their_rows()
+    ensures first { Laws first }
+    ensures name { Laws name }
+    ensures extent { Laws extent }
+    ensures times { Laws times }
+    ensures cookie { (row : CookieRow) → hyper.Fits row.fileid → length row.name ≤ longest_name
+        → cookie_in (cookie_value row) ≡ Some row }
 {}

@@ -45,7 +45,7 @@ fn put_kind(out: &mut Vec<u8>, kind: FileType) -> Result<(), NoMemory>
 }
 
 #[tactic(auto, unfolding(nfs3_types::specs::Attributes::time, xdr_grammar::specs::Items::word))]
-fn put_time(out: &mut Vec<u8>, at: Moment) -> Result<(), NoMemory>
+pub(crate) fn put_time(out: &mut Vec<u8>, at: Moment) -> Result<(), NoMemory>
     ensures { Puts time at out.old out.new result }
 {
     put_word(out, at.seconds)?;
@@ -138,7 +138,7 @@ fn read_kind(reader: &mut Reader<'_>) -> Result<FileType, XdrFault>
 }
 
 #[tactic(auto, unfolding(nfs3_types::specs::Attributes::time))]
-fn read_time(reader: &mut Reader<'_>) -> Result<Moment, XdrFault>
+pub(crate) fn read_time(reader: &mut Reader<'_>) -> Result<Moment, XdrFault>
     ensures { Gives time (λ at. at) reader.old reader.new result }
 {
     Ok(Moment {
@@ -147,7 +147,7 @@ fn read_time(reader: &mut Reader<'_>) -> Result<Moment, XdrFault>
     })
 }
 
-fn read_eight(reader: &mut Reader<'_>) -> Result<[u8; 8], XdrFault>
+pub(crate) fn read_eight(reader: &mut Reader<'_>) -> Result<[u8; 8], XdrFault>
     ensures { Gives (fixed 8) (λ bytes. bytes) reader.old reader.new result }
 {
     let part = reader.fixed(8)?;

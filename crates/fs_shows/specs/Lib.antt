@@ -1,0 +1,4 @@
+pub mod Extents
+pub mod Nodes
+pub mod Shows
+pub mod Steps
