@@ -1,0 +1,11 @@
+pub mod Counting
+pub mod Finishing
+pub mod Growing
+pub mod Answering
+pub mod Sequel
+pub mod Learned
+pub mod Parting
+pub mod Handing
+pub mod Moving
+pub mod Looking
+pub mod Rechecked
