@@ -1,0 +1,5 @@
+use Rattle.worker_demo.specs.Calls.{IsFor}
+use Rattle.worker_demo.proofs.attending.attend_part.Given as goal
+
+abbrev pub invariant-loop : goal.invariant-loop
+invariant-loop g l = IsFor l.fn.turn l.fn.number l.fn.pass.end l.pass
