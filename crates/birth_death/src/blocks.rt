@@ -1,6 +1,6 @@
 //! Blocks: pages beside the tree.
 
-ghost use Rattle.std.specs.Prelude.{◌≡◌, ◌<◌, ◌≤◌, ◌+◌, ◌%◌, ⊤, ℕ, List, [], length, Some, None, OnOk, IfOk, IfErr};
+ghost use Rattle.std.specs.Prelude.{◌≡◌, ◌<◌, ◌≤◌, ⊤, ℕ, List, [], length, Some, None, OnOk, IfOk, IfErr};
 ghost use Rattle.pair_types.specs.PageState.{Writes};
 ghost use Rattle.pair_types.specs.declared.slot.Slot.{Slot};
 ghost use Rattle.btree_search.specs.Found.{OnlyReads};
@@ -13,6 +13,7 @@ ghost use Rattle.birth_death.specs.Shows.{Shows, FindsIn, MovesIn, GivesUpIn};
 
 use btree_search::load;
 use pair_types::{Page, Pages, PairFault, Slot};
+use pairs::store_for;
 use std::alloc::Global;
 
 /// Where the root of a tree lies, which is no block.
@@ -80,15 +81,6 @@ pub(crate) fn write_block<G: Pages>(
         Ok(page) => write_page(pages, s, page),
         Err(fault) => Err(PairFault::from(fault)),
     }
-}
-
-/// The store where a file's block of this index belongs.
-fn store_for(file: u64, index: u64, stores: u32) -> u32
-    requires { 0 < stores }
-    ensures { result ≡ (file + index) % stores }
-{
-    let stores = u64::from(stores);
-    ((file % stores + index % stores) % stores) as u32
 }
 
 /// An empty block in a slot that had none, in the store where a file's block of this index belongs.

@@ -1,6 +1,8 @@
 -- Inodes and their bytes undo one another.
-use Rattle.std.proofs.Common.{◌≡◌, ℕ, zero, suc, ◌+◌, ◌<◌, ◌≤◌, ◌==◌, Bool, true, false, if◌then◌else◌, List, [], ◌∷◌, ◌++◌, length}
-use Rattle.std.proofs.Common.{replicate, Option, Some, None, is_some, Result, Ok, Err, refl, sym, ◌∙◌, ap, subst, arith, length-append, unwrap_or}
+use Rattle.std.proofs.Common.{◌≡◌, ℕ, zero, suc, ◌+◌, ◌<◌, ◌≤◌, ◌==◌, Bool, true, false, if◌then◌else◌, List, [], ◌∷◌, ◌++◌}
+use Rattle.std.proofs.Common.{length}
+use Rattle.std.proofs.Common.{replicate, Option, Some, None, is_some, Result, Ok, Err, refl, sym, ◌∙◌, ap, subst, arith}
+use Rattle.std.proofs.Common.{length-append, unwrap_or}
 use Rattle.std.specs.Prelude.{nat_le}
 use Rattle.std.specs.Str.{bytes_eq}
 use Rattle.std.proofs.lemmas.Bool.{eqb-true, leb-true, le-leb}
@@ -22,9 +24,11 @@ use Rattle.nfs3_types.specs.declared.file_type.FileType.TheVariants.{Reg}
 use Rattle.nfs3_types.specs.FileTypes.{type_number, file_types}
 use Rattle.nfs3_types.specs.Attributes.{time}
 use Rattle.nfs3_types.proofs.AttributeLaws.{time-laws}
+use Rattle.fs_rules.specs.Limits.{longest_target}
 use Rattle.fs_keys.specs.declared.inode.Head.{Head}
 use Rattle.fs_keys.specs.declared.inode.Inode.{Inode}
-use Rattle.fs_keys.specs.Inodes.{byte, flag, kind, zeros, if_other, no_verifier, verifier, head, longest_target, value_of, with_target, inode_of, Fits}
+use Rattle.fs_keys.specs.Inodes.{byte, flag, kind, zeros, if_other, no_verifier, verifier, head, value_of, with_target, inode_of}
+use Rattle.fs_keys.specs.Inodes.{Fits}
 
 byte-laws : Laws byte
 unfolding byte
@@ -45,18 +49,21 @@ flag-laws =
 
 -- a type that is found by a number has it
 type-step : (a : FileType) (n : ℕ) (later : Option FileType) → (is_some later ≡ true → type_number (or_else Reg later) ≡ n)
-    → (b : Bool) → (n == type_number a) ≡ b → is_some (if b then Some a else later) ≡ true → type_number (or_else Reg (if b then Some a else later)) ≡ n
+    → (b : Bool) → (n == type_number a) ≡ b → is_some (if b then Some a else later) ≡ true
+    → type_number (or_else Reg (if b then Some a else later)) ≡ n
 type-step a n later back true e h = sym (eqb-true n (type_number a) e)
 type-step a n later back false e h = back h
 
-type-back : (types : List FileType) (n : ℕ) → is_some (named type_number types n) ≡ true → type_number (or_else Reg (named type_number types n)) ≡ n
+type-back : (types : List FileType) (n : ℕ) → is_some (named type_number types n) ≡ true
+    → type_number (or_else Reg (named type_number types n)) ≡ n
 type-back [] n h = absurd cc
 type-back (a ∷ others) n h = type-step a n (named type_number others n) (type-back others n) (n == type_number a) refl h
 
 kind-laws : Laws kind
 unfolding kind
 kind-laws =
-    both-laws (tested byte (λ n. is_some (named type_number file_types n)) BadEnum at type_number) (λ n. done (or_else Reg (named type_number file_types n)))
+    both-laws (tested byte (λ n. is_some (named type_number file_types n)) BadEnum at type_number)
+    (λ n. done (or_else Reg (named type_number file_types n)))
     (tested-laws byte (λ n. is_some (named type_number file_types n)) BadEnum byte-laws)
     (λ n. done-laws (or_else Reg (named type_number file_types n)))
     (λ n front s r back t. ap type_number t.is ∙ type-back file_types n s.passes)
@@ -75,7 +82,8 @@ other-none bytes is = rw is refl
 no_verifier-laws : Laws no_verifier
 unfolding no_verifier
 no_verifier-laws =
-    both-laws (tested (fixed 8) (λ bytes. bytes_eq bytes zeros) BadEnum at (λ v. unwrap_or v zeros)) (λ bytes. done (if_other bytes))
+    both-laws (tested (fixed 8) (λ bytes. bytes_eq bytes zeros) BadEnum at (λ v. unwrap_or v zeros))
+    (λ bytes. done (if_other bytes))
     (tested-laws (fixed 8) (λ bytes. bytes_eq bytes zeros) BadEnum (fixed-laws 8))
     (λ bytes. done-laws (if_other bytes))
     (λ bytes front s r back t. ap (λ (v : Option (List ℕ)). unwrap_or v zeros) t.is ∙ other-back bytes s.passes)
@@ -113,7 +121,8 @@ front-bytes (x ∷ front) rest are (suc i) = front-bytes front rest (λ j. are (
 pub inode-fits : (value : List ℕ) (i : Inode) → AreBytes value → inode_of value ≡ Some i → Fits i
 inode-fits value i are is = by_reading (head.read value) refl is
   where
-    by_length : (h : Head) (target : List ℕ) → head.read value ≡ Ok (h, target) → (short : Bool) → nat_le (length target) longest_target ≡ short
+    by_length : (h : Head) (target : List ℕ) → head.read value ≡ Ok (h, target) → (short : Bool)
+        → nat_le (length target) longest_target ≡ short
         → (if short then Some (record { head = h; target = target }) else None) ≡ Some i → Fits i
     by_length h target reading true fit e =
         let f = head-laws.found value h target reading in
@@ -138,6 +147,8 @@ unfolding head kind byte time word hyper
 head-size h = let v = verifier-size h.kept.verifier in omega (arith, v)
 
 pub inode-short : (i : Inode) → Fits i → length (value_of i) ≤ 1113
+unfolding longest_target
 inode-short i fits =
-    let long : length (head.spelling i.head) ≡ 90 = head-laws.sized i.head (head.spelling i.head) (head-laws.written i.head fits.head) ∙ head-size i.head in
+    let long : length (head.spelling i.head) ≡ 90 = head-laws.sized i.head (head.spelling i.head)
+    (head-laws.written i.head fits.head) ∙ head-size i.head in
     omega (arith, length-append (head.spelling i.head) i.target, long, fits.target)

@@ -1,15 +1,18 @@
 -- Keys and what they say undo one another.
 use Rattle.std.proofs.Common.{◌≡◌, ℕ, zero, suc, ◌+◌, ◌*◌, ◌/◌, ◌%◌, ◌^◌, ◌<◌, ◌≤◌, ◌==◌, Bool, true, false, ◌&&◌, if◌then◌else◌}
-use Rattle.std.proofs.Common.{List, [], ◌∷◌, ◌++◌, length, take, drop, slice_index, slice_index_or, Option, Some, None, refl, sym, ◌∙◌, ap, subst, arith}
+use Rattle.std.proofs.Common.{List, [], ◌∷◌, ◌++◌, length, take, drop, slice_index, slice_index_or, Option, Some, None, refl, sym}
+use Rattle.std.proofs.Common.{◌∙◌, ap, subst, arith}
 use Rattle.std.specs.Prelude.{nat_le}
 use Rattle.std.proofs.lemmas.Bool.{eqb-true, leb-true, le-leb}
 use Rattle.std.proofs.lemmas.List.{take-append-drop, length-take, length-drop, take_all}
-use Rattle.std.proofs.Math.Nat.{div-one, mul-add-div_right, mul-add-mod_self_right, mod-eq_of_lt, div-eq_of_lt, one-le-pow, pow-succ', mul_assoc}
+use Rattle.std.proofs.Math.Nat.{div-one, mul-add-div_right, mul-add-mod_self_right, mod-eq_of_lt, div-eq_of_lt, one-le-pow}
+use Rattle.std.proofs.Math.Nat.{pow-succ', mul_assoc}
 use Rattle.std.specs.Int.{byte_at, bytes_high_first}
 use Rattle.byteorder.specs.Endian.{big_from, big_number, big_bytes}
 use Rattle.byteorder.specs.Numbers.{big_from-cons, big_from-lt, big_number-reads_back, length-bytes_high_first}
 use Rattle.xdr_grammar.specs.Laws.{AreBytes}
-use Rattle.fs_keys.specs.declared.key_parts.KeyParts.TheVariants.{First, Lane, Snapshot, Inode, Name, Cookie, Extent, Stale, Times}
+use Rattle.fs_keys.specs.declared.key_parts.KeyParts.TheVariants.{First, Lane, Snapshot, Inode, Name, Cookie, Extent, Stale}
+use Rattle.fs_keys.specs.declared.key_parts.KeyParts.TheVariants.{Times}
 use Rattle.fs_keys.specs.Keys.{Parts, key_of, HasBounds, only, first_number, second_number, Row, rows, said, parts_of}
 
 -- ---- numbers and their bytes
@@ -55,7 +58,8 @@ bytes-back zero (a ∷ xs) long are = absurd (omega (arith, long))
 bytes-back (suc n) [] long are = absurd (omega (arith, long))
 bytes-back (suc n) (a ∷ xs) long are =
     let low : big_number n xs < 256 ^ n = big_from-lt 0 n xs (λ i. are (suc i)) in
-    let split : big_number (suc n) (a ∷ xs) ≡ a * 256 ^ n + big_number n xs = ap (λ (y : ℕ). a * 256 ^ n + y) (big_from-cons 0 n a xs) in
+    let split : big_number (suc n) (a ∷ xs) ≡ a * 256 ^ n + big_number n xs =
+    ap (λ (y : ℕ). a * 256 ^ n + y) (big_from-cons 0 n a xs) in
     ap (big_bytes (suc n)) split
     ∙ ap (λ (b : ℕ). b ∷ bytes_high_first n (a * 256 ^ n + big_number n xs)) (byte-top a n (big_number n xs) (are 0) low)
     ∙ ap (λ (bs : List ℕ). a ∷ bs) (bytes-above a n (big_number n xs) ∙ bytes-back n xs (omega (arith, long)) (λ i. are (suc i)))
@@ -124,7 +128,8 @@ second-back rest long are = bytes-back 8 (drop 8 rest) (omega (arith, length-dro
 only-back : (rest : List ℕ) → length rest ≡ 8 → AreBytes rest → big_bytes 8 (first_number rest) ≡ rest
 only-back rest long are = first-back rest (omega (arith, long)) are ∙ take_all 8 rest (omega (arith, long))
 
-two-back : (rest : List ℕ) → length rest ≡ 16 → AreBytes rest → big_bytes 8 (first_number rest) ++ big_bytes 8 (second_number rest) ≡ rest
+two-back : (rest : List ℕ) → length rest ≡ 16 → AreBytes rest → big_bytes 8 (first_number rest)
+    ++ big_bytes 8 (second_number rest) ≡ rest
 two-back rest long are =
     ap (λ (t : List ℕ). t ++ big_bytes 8 (second_number rest)) (first-back rest (omega (arith, long)) are)
     ∙ ap (λ (t : List ℕ). take 8 rest ++ t) (second-back rest long are)
@@ -158,9 +163,11 @@ abbrev AllSay : (Parts → Type 0) → ℕ → List Row → Type 0
 AllSay P number [] = Unit {0}
 AllSay P number (row ∷ others) = (number ≡ row.number → row.fits ≡ true → P row.says) × AllSay P number others
 
-said-all : (P : Parts → Type 0) (number : ℕ) (table : List Row) → AllSay P number table → (parts : Parts) → said number table ≡ Some parts → P parts
+said-all : (P : Parts → Type 0) (number : ℕ) (table : List Row) → AllSay P number table → (parts : Parts)
+    → said number table ≡ Some parts → P parts
 said-all P number [] all parts is = absurd (cc)
-said-all P number (row ∷ others) all parts is = by_number (number == row.number) refl is (λ more. said-all P number others all.1 parts more)
+said-all P number (row ∷ others) all parts is = by_number (number == row.number) refl is
+    (λ more. said-all P number others all.1 parts more)
   where
     by_fit : (fits : Bool) → row.fits ≡ fits → number ≡ row.number → only fits row.says ≡ Some parts → P parts
     by_fit true fit at e = let same : row.says ≡ parts = cc in subst P same (all.0 at fit)
@@ -192,11 +199,14 @@ said-found (number ∷ rest) parts are is = said-all (λ p. key_of p ≡ number 
             λ is fit. at 4 (big_bytes 8 (first_number rest)) is (only-back rest (eqb-true _ _ fit) bytes),
             (
               λ is fit. at 5 (big_bytes 8 (first_number rest) ++ drop 8 rest) is
-                  (ap (λ (t : List ℕ). t ++ drop 8 rest) (first-back rest (leb-true 8 (length rest) (both-first _ _ fit)) bytes) ∙ take-append-drop 8 rest),
+                  (ap (λ (t : List ℕ). t ++ drop 8 rest) (first-back rest (leb-true 8 (length rest) (both-first _ _ fit)) bytes)
+                  ∙ take-append-drop 8 rest),
               (
-                λ is fit. at 6 (big_bytes 8 (first_number rest) ++ big_bytes 8 (second_number rest)) is (two-back rest (eqb-true _ _ fit) bytes),
+                λ is fit. at 6 (big_bytes 8 (first_number rest) ++ big_bytes 8 (second_number rest)) is
+                    (two-back rest (eqb-true _ _ fit) bytes),
                 (
-                  λ is fit. at 7 (big_bytes 8 (first_number rest) ++ big_bytes 8 (second_number rest)) is (two-back rest (eqb-true _ _ fit) bytes),
+                  λ is fit. at 7 (big_bytes 8 (first_number rest) ++ big_bytes 8 (second_number rest)) is
+                      (two-back rest (eqb-true _ _ fit) bytes),
                   (
                     λ is fit. at 8 (big_bytes 8 (first_number rest)) is (only-back rest (eqb-true _ _ fit) bytes),
                     (
@@ -233,7 +243,15 @@ said-bounds (number ∷ rest) parts are is = said-all HasBounds number (rows res
           (
             λ is fit. first-low rest bytes,
             (
-              λ is fit. (first-low rest bytes, omega (arith, length-drop 8 rest, leb-true (length rest) 263 (both-second _ _ fit))),
+              λ is fit. (
+                first-low rest bytes,
+                omega (
+                  arith,
+                  length-drop 8 rest,
+                  leb-true (length rest) 263
+                      (both-second _ _ fit),
+                ),
+              ),
               (
                 λ is fit. (first-low rest bytes, second-low rest bytes),
                 (

@@ -9,8 +9,9 @@ use Rattle.xdr_grammar.proofs.Items.{hyper-laws}
 use Rattle.xdr_grammar.proofs.Rules.{grammar_laws}
 use Rattle.xdr_grammar.proofs.Whole.{whole-laws}
 use Rattle.nfs3_types.proofs.AttributeLaws.{time-laws}
+use Rattle.fs_rules.specs.Limits.{longest_name}
 use Rattle.fs_keys.specs.declared.rows.CookieRow.{CookieRow}
-use Rattle.fs_keys.specs.Values.{first, name, extent, times, ok_of, said_by, longest_name, cookie_value, with_name, cookie_in}
+use Rattle.fs_keys.specs.Values.{first, name, extent, times, ok_of, said_by, cookie_value, with_name, cookie_in}
 
 pub first-laws : Laws first
 unfolding first

@@ -13,6 +13,7 @@ use Rattle.nfs3_types.specs.declared.file_type.FileType.TheVariants.{Reg}
 use Rattle.nfs3_types.specs.FileTypes.{type_number, file_types}
 use Rattle.nfs3_types.specs.Attributes.{time}
 use Rattle.fs_rules.specs.declared.inode.Inode.{Inode as Kept}
+use Rattle.fs_rules.specs.Limits.{longest_target}
 use Rattle.fs_keys.specs.declared.inode.Head.{Head}
 use Rattle.fs_keys.specs.declared.inode.Inode.{Inode}
 
@@ -88,10 +89,6 @@ head = do
     size = size;
     floor = floor;
   })
-
--- the longest target of a link
-abbrev pub longest_target : ℕ
-longest_target = 1023
 
 -- the bytes of an inode: its head, and a link's target
 abbrev pub value_of : Inode → List ℕ

@@ -1,10 +1,12 @@
 -- The keys of the records that the file tree is: a row's number in one byte, and then its parts, eight bytes a number,
 -- the highest first.
-use Rattle.std.specs.Prelude.{ℕ, ◌<◌, ◌≤◌, ◌^◌, ◌==◌, nat_le, Bool, true, false, ◌&&◌, if◌then◌else◌, List, [], ◌∷◌, ◌++◌, length, take, drop}
+use Rattle.std.specs.Prelude.{ℕ, ◌<◌, ◌≤◌, ◌^◌, ◌==◌, nat_le, Bool, true, false, ◌&&◌, if◌then◌else◌, List, [], ◌∷◌, ◌++◌, length}
+use Rattle.std.specs.Prelude.{take, drop}
 use Rattle.std.specs.Prelude.{slice_index_or, Option, Some, None, ⊤}
 use Rattle.byteorder.specs.Endian.{big_number, big_bytes}
 use Rattle.fs_keys.specs.declared.key_parts.KeyParts.{KeyParts}
-use Rattle.fs_keys.specs.declared.key_parts.KeyParts.TheVariants.{First, Lane, Snapshot, Inode, Name, Cookie, Extent, Stale, Times}
+use Rattle.fs_keys.specs.declared.key_parts.KeyParts.TheVariants.{First, Lane, Snapshot, Inode, Name, Cookie, Extent, Stale}
+use Rattle.fs_keys.specs.declared.key_parts.KeyParts.TheVariants.{Times}
 
 abbrev pub Parts : Type 0
 Parts = KeyParts (List ℕ)
@@ -57,7 +59,11 @@ rows rest =
     ∷ (record { number = 2; fits = length rest == 1; says = Lane (slice_index_or rest 0 0) }
     ∷ (record { number = 3; fits = length rest == 8; says = Snapshot (first_number rest) }
     ∷ (record { number = 4; fits = length rest == 8; says = Inode (first_number rest) }
-    ∷ (record { number = 5; fits = nat_le 8 (length rest) && nat_le (length rest) 263; says = Name (first_number rest) (drop 8 rest) }
+    ∷ (record {
+      number = 5;
+      fits = nat_le 8 (length rest) && nat_le (length rest) 263;
+      says = Name (first_number rest) (drop 8 rest);
+    }
     ∷ (record { number = 6; fits = length rest == 16; says = Cookie (first_number rest) (second_number rest) }
     ∷ (record { number = 7; fits = length rest == 16; says = Extent (first_number rest) (second_number rest) }
     ∷ (record { number = 8; fits = length rest == 8; says = Stale (first_number rest) }

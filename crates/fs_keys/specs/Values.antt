@@ -6,6 +6,7 @@ use Rattle.xdr_grammar.specs.Items.{hyper, fixed}
 use Rattle.xdr_grammar.specs.Whole.{whole}
 use Rattle.nfs3_types.specs.Attributes.{time}
 use Rattle.fs_rules.specs.declared.times.Times.{Times}
+use Rattle.fs_rules.specs.Limits.{longest_name}
 use Rattle.fs_keys.specs.declared.rows.First.{First}
 use Rattle.fs_keys.specs.declared.rows.NameRow.{NameRow}
 use Rattle.fs_keys.specs.declared.rows.CookieRow.{CookieRow}
@@ -68,9 +69,6 @@ abbrev pub times_in : List ℕ → Option Times
 times_in = said_by times
 
 -- key 06: a number, and the name behind it
-abbrev pub longest_name : ℕ
-longest_name = 255
-
 abbrev pub cookie_value : CookieRow → List ℕ
 cookie_value row = hyper.spelling row.fileid ++ row.name
 

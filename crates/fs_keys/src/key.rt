@@ -68,7 +68,8 @@ fn two_numbers(rest: &[u8]) -> Option<(u64, u64)>
 
 /// The number and the name behind a row's number, where the name has at most 255 bytes.
 fn number_and_name(rest: &[u8]) -> Option<(u64, TextRef<'_>)>
-    ensures { result ≡ only (nat_le 8 (length rest.now) && nat_le (length rest.now) 263) (first_number rest.now, drop 8 rest.now) }
+    ensures { result ≡ only (nat_le 8 (length rest.now) && nat_le (length rest.now) 263)
+        (first_number rest.now, drop 8 rest.now) }
 {
     if rest.len() < 8 || rest.len() > 263 {
         return None;

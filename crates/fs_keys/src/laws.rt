@@ -2,11 +2,12 @@
 
 ghost use Rattle.std.specs.Prelude.{◌≡◌, ◌≤◌, ◌+◌, ℕ, List, length, Some};
 ghost use Rattle.xdr_grammar.specs.Laws.{AreBytes, Laws};
+ghost use Rattle.fs_rules.specs.Limits.{longest_name};
 ghost use Rattle.fs_keys.specs.declared.inode.Inode.{Inode};
 ghost use Rattle.fs_keys.specs.Keys.{Parts, HasBounds, key_of, parts_of};
 ghost use Rattle.fs_keys.specs.Inodes.{Fits, head, inode_of, value_of};
 ghost use Rattle.fs_keys.specs.declared.rows.CookieRow.{CookieRow};
-ghost use Rattle.fs_keys.specs.Values.{first, name, extent, times, longest_name, cookie_value, cookie_in};
+ghost use Rattle.fs_keys.specs.Values.{first, name, extent, times, cookie_value, cookie_in};
 ghost use Rattle.xdr_grammar.specs.Items.{hyper};
 
 /// Keys and what they say undo one another: so two keys of one row differ where their parts do, and keys of two rows do.

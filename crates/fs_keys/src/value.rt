@@ -1,15 +1,17 @@
 //! Inodes, as bytes.
 
-ghost use Rattle.std.specs.Prelude.{◌≡◌, ◌≤◌, length, IfOk};
+ghost use Rattle.std.specs.Prelude.{◌≡◌, ◌≤◌, length, Some, IfOk, OnOk};
 ghost use Rattle.xdr_grammar.specs.Reading.{Gives};
 ghost use Rattle.xdr_grammar.specs.Writing.{Puts};
 ghost use Rattle.nfs3_types.specs.Attributes.{time};
+ghost use Rattle.fs_rules.specs.Limits.{longest_target};
 ghost use Rattle.fs_keys.specs.Inodes.{byte, flag, kind as kind_row, verifier, no_verifier, head as head_row};
-ghost use Rattle.fs_keys.specs.Inodes.{value_of as bytes_of, inode_of as inode_in, longest_target};
-ghost use Rattle.xdr_grammar.specs.Items.{fixed};
+ghost use Rattle.fs_keys.specs.Inodes.{value_of as bytes_of, inode_of as inode_in};
+ghost use Rattle.xdr_grammar.specs.Items.{word, hyper, fixed};
 
 use crate::inode::{Head, Inode};
 use fs_rules::Inode as Kept;
+use fs_rules::limits::LONGEST_TARGET;
 use nfs3_types::{FileType, Moment, NoMemory, Text};
 use pair_types::Value;
 use std::alloc::Global;
@@ -19,8 +21,21 @@ use xdr_grammar::XdrFault;
 /// How many bytes an inode has before a link's target.
 const HEAD: usize = 90;
 
-/// The longest target of a link.
-const LONGEST_TARGET: usize = 1023;
+#[tactic(auto, unfolding(xdr_grammar::specs::Items::word))]
+fn put_u32(out: &mut Vec<u8>, n: u32) -> Result<(), NoMemory>
+    ensures puts { Puts word n out.old out.new result }
+    ensures fits { word.Fits n }
+{
+    put_word(out, n)
+}
+
+#[tactic(auto, unfolding(xdr_grammar::specs::Items::hyper))]
+pub(crate) fn put_u64(out: &mut Vec<u8>, n: u64) -> Result<(), NoMemory>
+    ensures puts { Puts hyper n out.old out.new result }
+    ensures fits { hyper.Fits n }
+{
+    put_hyper(out, n)
+}
 
 #[tactic(auto, unfolding(crate::specs::Inodes::byte))]
 fn put_byte(out: &mut Vec<u8>, n: u8) -> Result<(), NoMemory>
@@ -46,53 +61,62 @@ fn put_kind(out: &mut Vec<u8>, kind: FileType) -> Result<(), NoMemory>
 
 #[tactic(auto, unfolding(nfs3_types::specs::Attributes::time, xdr_grammar::specs::Items::word))]
 pub(crate) fn put_time(out: &mut Vec<u8>, at: Moment) -> Result<(), NoMemory>
-    ensures { Puts time at out.old out.new result }
+    ensures puts { Puts time at out.old out.new result }
+    ensures fits { OnOk result (time.Fits at) }
 {
-    put_word(out, at.seconds)?;
-    put_word(out, at.nanos)
+    put_u32(out, at.seconds)?;
+    put_u32(out, at.nanos)?;
+    Ok(())
 }
 
 /// The verifier of an EXCLUSIVE CREATE, or zeros.
 #[tactic(auto, unfolding(crate::specs::Inodes::verifier, crate::specs::Inodes::no_verifier, crate::specs::Inodes::flag, crate::specs::Inodes::byte, xdr_grammar::specs::Items::fixed))]
 fn put_verifier(out: &mut Vec<u8>, bytes: &Option<[u8; 8]>) -> Result<(), NoMemory>
-    ensures { Puts verifier bytes.now out.old out.new result }
+    ensures puts { Puts verifier bytes.now out.old out.new result }
+    ensures fits { OnOk result (verifier.Fits bytes.now) }
 {
     match bytes {
         Some(bytes) => {
             put_flag(out, true)?;
-            put_fixed(out, bytes)
+            put_fixed(out, bytes)?;
+            Ok(())
         }
         None => {
             put_flag(out, false)?;
-            put_fixed(out, &[0; 8])
+            put_fixed(out, &[0; 8])?;
+            Ok(())
         }
     }
 }
 
 #[tactic(auto, unfolding(crate::specs::Inodes::head, xdr_grammar::specs::Items::word, xdr_grammar::specs::Items::hyper))]
 fn put_head(out: &mut Vec<u8>, head: &Head) -> Result<(), NoMemory>
-    ensures { Puts head_row head.now out.old out.new result }
+    ensures puts { Puts head_row head.now out.old out.new result }
+    ensures fits { OnOk result (head_row.Fits head.now) }
 {
     put_kind(out, head.kept.kind)?;
-    put_word(out, head.kept.mode)?;
-    put_word(out, head.kept.nlink)?;
-    put_word(out, head.kept.uid)?;
-    put_word(out, head.kept.gid)?;
-    put_hyper(out, head.size)?;
+    put_u32(out, head.kept.mode)?;
+    put_u32(out, head.kept.nlink)?;
+    put_u32(out, head.kept.uid)?;
+    put_u32(out, head.kept.gid)?;
+    put_u64(out, head.size)?;
     put_time(out, head.kept.atime)?;
     put_time(out, head.kept.mtime)?;
     put_time(out, head.kept.ctime)?;
-    put_hyper(out, head.kept.parent)?;
-    put_hyper(out, head.kept.next_cookie)?;
+    put_u64(out, head.kept.parent)?;
+    put_u64(out, head.kept.next_cookie)?;
     put_verifier(out, &head.kept.verifier)?;
-    put_hyper(out, head.kept.cuts)?;
-    put_hyper(out, head.floor)
+    put_u64(out, head.kept.cuts)?;
+    put_u64(out, head.floor)?;
+    Ok(())
 }
 
-/// The bytes of an inode, as they are kept.
+/// The bytes of an inode, as they are kept: they spell it.
 pub fn value_of(alloc: Global, inode: &Inode) -> Result<Value, NoMemory>
     requires { length inode.now.target ≤ longest_target }
-    ensures { IfOk result (λ value. value ≡ bytes_of inode.now) }
+    ensures is { IfOk result (λ value. value ≡ bytes_of inode.now) }
+    ensures again { IfOk result (λ value. inode_in value ≡ Some inode.now) }
+    ensures short { IfOk result (λ value. length value ≤ 1113) }
 {
     let target = inode.target.as_slice();
     let mut value = Vec::with_capacity(alloc, HEAD + target.len())?;
@@ -218,6 +242,7 @@ fn read_head(reader: &mut Reader<'_>) -> Result<Head, XdrFault>
 }
 
 /// The inode that these bytes spell; `None` where they spell none, and where the target would be too long.
+#[tactic(auto, unfolding(fs_rules::specs::Limits::longest_target))]
 pub fn inode_of(alloc: Global, value: &[u8]) -> Result<Option<Inode>, NoMemory>
     ensures { IfOk result (λ inode. inode ≡ inode_in value.now) }
 {

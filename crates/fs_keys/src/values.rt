@@ -1,62 +1,70 @@
 //! The values of all records but inodes, as bytes.
 
-ghost use Rattle.std.specs.Prelude.{◌≡◌, ◌≤◌, length, IfOk};
+ghost use Rattle.std.specs.Prelude.{◌≡◌, ◌≤◌, length, Some, IfOk, OnOk};
+ghost use Rattle.fs_rules.specs.Limits.{longest_name};
 ghost use Rattle.xdr_grammar.specs.Items.{hyper};
 ghost use Rattle.xdr_grammar.specs.Reading.{Gives};
 ghost use Rattle.xdr_grammar.specs.Writing.{Puts};
 ghost use Rattle.fs_keys.specs.Values.{first as first_row, name as name_row, extent as extent_row, times as times_row};
 ghost use Rattle.fs_keys.specs.Values.{first_in, lane_in, name_in, extent_in, times_in, cookie_in as said_in};
-ghost use Rattle.fs_keys.specs.Values.{cookie_value as bytes_of, longest_name};
+ghost use Rattle.fs_keys.specs.Values.{cookie_value as bytes_of};
 
 use crate::rows::{CookieRow, Extent, First, NameRow};
-use crate::value::{put_time, read_eight, read_time};
+use crate::value::{put_time, put_u64, read_eight, read_time};
 use fs_rules::Times;
+use fs_rules::limits::LONGEST_NAME;
 use nfs3_types::{NoMemory, Text};
 use pair_types::Value;
 use std::alloc::Global;
-use xdr::{Reader, put_fixed, put_hyper};
+use xdr::{Reader, put_fixed};
 use xdr_grammar::XdrFault;
-
-/// The longest name.
-const LONGEST_NAME: usize = 255;
 
 #[tactic(auto, unfolding(crate::specs::Values::first))]
 fn put_first(out: &mut Vec<u8>, row: &First) -> Result<(), NoMemory>
-    ensures { Puts first_row row.now out.old out.new result }
+    ensures puts { Puts first_row row.now out.old out.new result }
+    ensures fits { OnOk result (first_row.Fits row.now) }
 {
-    put_hyper(out, row.epoch)?;
-    put_hyper(out, row.fsid)?;
-    put_fixed(out, &row.verifier)
+    put_u64(out, row.epoch)?;
+    put_u64(out, row.fsid)?;
+    put_fixed(out, &row.verifier)?;
+    Ok(())
 }
 
 #[tactic(auto, unfolding(crate::specs::Values::name))]
 fn put_name(out: &mut Vec<u8>, row: NameRow) -> Result<(), NoMemory>
-    ensures { Puts name_row row out.old out.new result }
+    ensures puts { Puts name_row row out.old out.new result }
+    ensures fits { OnOk result (name_row.Fits row) }
 {
-    put_hyper(out, row.cookie)?;
-    put_hyper(out, row.fileid)
+    put_u64(out, row.cookie)?;
+    put_u64(out, row.fileid)?;
+    Ok(())
 }
 
 #[tactic(auto, unfolding(crate::specs::Values::extent))]
 fn put_extent(out: &mut Vec<u8>, row: Extent) -> Result<(), NoMemory>
-    ensures { Puts extent_row row out.old out.new result }
+    ensures puts { Puts extent_row row out.old out.new result }
+    ensures fits { OnOk result (extent_row.Fits row) }
 {
-    put_hyper(out, row.number)?;
-    put_hyper(out, row.stamp)
+    put_u64(out, row.number)?;
+    put_u64(out, row.stamp)?;
+    Ok(())
 }
 
 #[tactic(auto, unfolding(crate::specs::Values::times))]
 fn put_times(out: &mut Vec<u8>, row: Times) -> Result<(), NoMemory>
-    ensures { Puts times_row row out.old out.new result }
+    ensures puts { Puts times_row row out.old out.new result }
+    ensures fits { OnOk result (times_row.Fits row) }
 {
     put_time(out, row.atime)?;
     put_time(out, row.mtime)?;
-    put_time(out, row.ctime)
+    put_time(out, row.ctime)?;
+    Ok(())
 }
 
 /// The value of the first record.
 pub fn first_value(alloc: Global, row: &First) -> Result<Value, NoMemory>
-    ensures { IfOk result (λ value. value ≡ first_row.spelling row.now) }
+    ensures is { IfOk result (λ value. value ≡ first_row.spelling row.now) }
+    ensures again { IfOk result (λ value. first_in value ≡ Some row.now) }
 {
     let mut value = Vec::with_capacity(alloc, 24)?;
     put_first(&mut value, row)?;
@@ -65,16 +73,18 @@ pub fn first_value(alloc: Global, row: &First) -> Result<Value, NoMemory>
 
 /// The value of a lane's record: the number of its next file.
 pub fn lane_value(alloc: Global, next: u64) -> Result<Value, NoMemory>
-    ensures { IfOk result (λ value. value ≡ hyper.spelling next) }
+    ensures is { IfOk result (λ value. value ≡ hyper.spelling next) }
+    ensures again { IfOk result (λ value. lane_in value ≡ Some next) }
 {
     let mut value = Vec::with_capacity(alloc, 8)?;
-    put_hyper(&mut value, next)?;
+    put_u64(&mut value, next)?;
     Ok(Value::from_vec(value))
 }
 
 /// The value of a name's record.
 pub fn name_value(alloc: Global, row: NameRow) -> Result<Value, NoMemory>
-    ensures { IfOk result (λ value. value ≡ name_row.spelling row) }
+    ensures is { IfOk result (λ value. value ≡ name_row.spelling row) }
+    ensures again { IfOk result (λ value. name_in value ≡ Some row) }
 {
     let mut value = Vec::with_capacity(alloc, 16)?;
     put_name(&mut value, row)?;
@@ -83,7 +93,8 @@ pub fn name_value(alloc: Global, row: NameRow) -> Result<Value, NoMemory>
 
 /// The value of an extent's record.
 pub fn extent_value(alloc: Global, row: Extent) -> Result<Value, NoMemory>
-    ensures { IfOk result (λ value. value ≡ extent_row.spelling row) }
+    ensures is { IfOk result (λ value. value ≡ extent_row.spelling row) }
+    ensures again { IfOk result (λ value. extent_in value ≡ Some row) }
 {
     let mut value = Vec::with_capacity(alloc, 16)?;
     put_extent(&mut value, row)?;
@@ -92,7 +103,8 @@ pub fn extent_value(alloc: Global, row: Extent) -> Result<Value, NoMemory>
 
 /// The value of the record of the times of the directory `.snapshot`.
 pub fn times_value(alloc: Global, row: Times) -> Result<Value, NoMemory>
-    ensures { IfOk result (λ value. value ≡ times_row.spelling row) }
+    ensures is { IfOk result (λ value. value ≡ times_row.spelling row) }
+    ensures again { IfOk result (λ value. times_in value ≡ Some row) }
 {
     let mut value = Vec::with_capacity(alloc, 24)?;
     put_times(&mut value, row)?;
@@ -102,11 +114,12 @@ pub fn times_value(alloc: Global, row: Times) -> Result<Value, NoMemory>
 /// The value of a cookie's record.
 pub fn cookie_value(alloc: Global, row: &CookieRow) -> Result<Value, NoMemory>
     requires { length row.now.name ≤ longest_name }
-    ensures { IfOk result (λ value. value ≡ bytes_of row.now) }
+    ensures is { IfOk result (λ value. value ≡ bytes_of row.now) }
+    ensures again { IfOk result (λ value. said_in value ≡ Some row.now) }
 {
     let name = row.name.as_slice();
     let mut value = Vec::with_capacity(alloc, 8 + name.len())?;
-    put_hyper(&mut value, row.fileid)?;
+    put_u64(&mut value, row.fileid)?;
     value.extend_from_slice(name)?;
     Ok(Value::from_vec(value))
 }
@@ -204,6 +217,7 @@ pub fn times_of(value: &[u8]) -> Option<Times>
 }
 
 /// What the value of a cookie's record says; `None` where it says nothing, and where the name would be too long.
+#[tactic(auto, unfolding(fs_rules::specs::Limits::longest_name))]
 pub fn cookie_of(alloc: Global, value: &[u8]) -> Result<Option<CookieRow>, NoMemory>
     ensures { IfOk result (λ row. row ≡ said_in value.now) }
 {

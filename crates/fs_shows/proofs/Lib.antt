@@ -1,1 +1,11 @@
 pub mod Passing
+pub mod Apart
+pub mod Rewriting
+pub mod NodeEdits
+pub mod InodeEdits
+pub mod Doing
+pub mod Viewing
+pub mod FileEdits
+pub mod LaneEdits
+pub mod NameLists
+pub mod NameEdits

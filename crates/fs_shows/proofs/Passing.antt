@@ -19,7 +19,8 @@ module _ {S W : Type 0} (told : PairsTold S W) (old mid new : S) where
 
   -- a fact of the tree that lies below, from a call behind an edit
   pub learns_behind : (n : ℕ) (Given Then P : Tree → Type 0) (edit : Tree → Tree) → Goes told mid new n
-      → Edits told old mid Given edit → ((t : Tree) → Given t → Then (edit t)) → Learns told mid new Then P → Learns told old new Given (λ t. P (edit t))
+      → Edits told old mid Given edit → ((t : Tree) → Given t → Then (edit t)) → Learns told mid new Then P
+      → Learns told old new Given (λ t. P (edit t))
   learns_behind n Given Then P edit goes first given then = λ w t agrees lies is.
       then w (edit t) agrees (first w t (goes.agreed w agrees) lies is) (given t is)
 
@@ -30,7 +31,8 @@ module _ {S W : Type 0} (told : PairsTold S W) (old mid new : S) where
 
   -- two edits are one
   pub edits_both : (n : ℕ) (Given Then : Tree → Type 0) (edit next : Tree → Tree) → Goes told mid new n
-      → Edits told old mid Given edit → ((t : Tree) → Given t → Then (edit t)) → Edits told mid new Then next → Edits told old new Given (λ t. next (edit t))
+      → Edits told old mid Given edit → ((t : Tree) → Given t → Then (edit t)) → Edits told mid new Then next
+      → Edits told old new Given (λ t. next (edit t))
   edits_both n Given Then edit next goes first given then = λ w t agrees lies is.
       then w (edit t) agrees (first w t (goes.agreed w agrees) lies is) (given t is)
 

@@ -8,13 +8,14 @@ use Rattle.fs_rules.specs.Attributes.{is_link, size_of}
 use Rattle.fs_rules.specs.Names.{named}
 use Rattle.fs_rules.specs.Places.{names_of}
 use Rattle.fs_rules.specs.Tree.{Node, Nodes}
+use Rattle.fs_rules.specs.Limits.{longest_name}
 use Rattle.fs_keys.specs.declared.key_parts.KeyParts.TheVariants.{Inode as InodeKey, Name, Cookie}
 use Rattle.fs_keys.specs.declared.inode.Inode.{Inode}
 use Rattle.fs_keys.specs.declared.inode.Head.{Head}
 use Rattle.fs_keys.specs.declared.rows.NameRow.{NameRow}
 use Rattle.fs_keys.specs.declared.rows.CookieRow.{CookieRow}
 use Rattle.fs_keys.specs.Inodes.{inode_of}
-use Rattle.fs_keys.specs.Values.{name_in, cookie_in, longest_name}
+use Rattle.fs_keys.specs.Values.{name_in, cookie_in}
 use Rattle.fs_shows.specs.Extents.{Marks, row, ShowsContent}
 
 -- A record holds this: it is there where something is to be said, and its value says that.
@@ -77,4 +78,5 @@ pub record ShowsNodes (v : Versions) (at : At) (nodes : Nodes) : Type 0 where
   pub names : (directory : ℕ) (name : List ℕ) → directory < 2 ^ 64 → length name ≤ longest_name
       → Holds name_in (row v at (Name directory name)) (option_map name_row (named name (names_of (nodes directory))))
   pub cookies : (directory cookie : ℕ) → directory < 2 ^ 64 → cookie < 2 ^ 64
-      → Holds cookie_in (row v at (Cookie directory cookie)) (option_map cookie_row (numbered cookie (names_of (nodes directory))))
+      → Holds cookie_in (row v at (Cookie directory cookie))
+      (option_map cookie_row (numbered cookie (names_of (nodes directory))))

@@ -5,6 +5,7 @@ ghost use Rattle.pairs.specs.Found.{Fills};
 
 use nfs3_types::NoMemory;
 use pair_types::{Page, Slot};
+use pairs::store_for;
 use std::alloc::Global;
 use std::collections::BTreeMap;
 
@@ -26,15 +27,6 @@ fn fill(bytes: &[u8], room: &mut [u8]) -> usize
     let n = room.len().min(bytes.len());
     room[..n].copy_from_slice(&bytes[..n]);
     n
-}
-
-/// The store where a file's block of this index belongs.
-fn store_for(file: u64, index: u64, stores: u32) -> u32
-    requires { 0 < stores }
-    ensures { result ≡ (file + index) % stores }
-{
-    let sum = u128::from(file) + u128::from(index);
-    (sum % u128::from(stores)) as u32
 }
 
 impl MemBlocks {

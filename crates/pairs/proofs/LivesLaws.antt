@@ -25,7 +25,8 @@ are-from epoch from sooner (l ∷ ls) up (a, b, c, d) = (omega arith, b, c, d)
 
 -- ---- puts
 
-pub seen-put : (epoch from : ℕ) (value : List ℕ) (ls : List Life) → epoch < never → AreLives epoch from ls → seen Live (put_life epoch value ls) ≡ Some value
+pub seen-put : (epoch from : ℕ) (value : List ℕ) (ls : List Life) → epoch < never → AreLives epoch from ls
+    → seen Live (put_life epoch value ls) ≡ Some value
 unfolding AreLives
 seen-put epoch from value [] early are = grind (arith, common_steps)
 seen-put epoch from value (l ∷ ls) early (a, b, c, inl h) = grind (arith, common_steps)
@@ -34,7 +35,8 @@ seen-put epoch from value (l ∷ ls) early (a, b, c, inr h) =
     let old : l.death ≢ never = omega (arith, h.0) in
     grind (arith, common_steps, ih, old)
 
-pub born-put : (epoch from : ℕ) (value : List ℕ) (ls : List Life) → epoch < never → AreLives epoch from ls → born (put_life epoch value ls) ≡ Some epoch
+pub born-put : (epoch from : ℕ) (value : List ℕ) (ls : List Life) → epoch < never → AreLives epoch from ls
+    → born (put_life epoch value ls) ≡ Some epoch
 unfolding AreLives
 born-put epoch from value [] early are = grind (arith, common_steps)
 born-put epoch from value (l ∷ ls) early (a, b, c, inl h) = grind (arith, common_steps)
@@ -60,20 +62,24 @@ unfolding AreLives
 seen-put-earlier n epoch from value [] early late are = grind (arith, common_steps)
 seen-put-earlier n epoch from value (l ∷ ls) early late (a, b, c, inl h) = grind (arith, common_steps, h.0, h.1)
 seen-put-earlier n epoch from value (l ∷ ls) early late (a, b, c, inr h) =
-    let ih : seen (Snap n) (put_life epoch value ls) ≡ seen (Snap n) ls = seen-put-earlier n epoch l.death value ls early late h.1 in
+    let ih : seen (Snap n) (put_life epoch value ls) ≡ seen (Snap n) ls = seen-put-earlier n epoch l.death value ls early late h.1
+    in
     let old : l.death ≢ never = omega (arith, h.0) in
     grind (arith, common_steps, ih, old)
 
-pub are-put : (epoch from : ℕ) (value : List ℕ) (ls : List Life) → epoch < never → from ≤ epoch → AreLives epoch from ls → AreLives epoch from (put_life epoch value ls)
+pub are-put : (epoch from : ℕ) (value : List ℕ) (ls : List Life) → epoch < never → from ≤ epoch → AreLives epoch from ls
+    → AreLives epoch from (put_life epoch value ls)
 unfolding AreLives
 are-put epoch from value [] early within are = (within, omega arith, early, inl (refl, refl))
 are-put epoch from value (l ∷ ls) early within (a, b, c, inl h) =
     let t : (l.death == never) ≡ true = grind (arith, common_steps, h.0) in
     rw t (at_birth (l.birth == epoch) refl)
   where
-    at_birth : (u : Bool) → (l.birth == epoch) ≡ u → AreLives epoch from (if u then new_life epoch value ∷ ls else record l { death = epoch } ∷ (new_life epoch value ∷ ls))
+    at_birth : (u : Bool) → (l.birth == epoch) ≡ u → AreLives epoch from (if u then new_life epoch value ∷ ls
+        else record l { death = epoch } ∷ (new_life epoch value ∷ ls))
     at_birth true is = (within, omega arith, early, inl (refl, h.1))
-    at_birth false is = let less : l.birth < epoch = grind (arith, common_steps, b) in (a, b, less, inr (omega arith, (omega arith, omega arith, early, inl (refl, h.1))))
+    at_birth false is = let less : l.birth < epoch = grind (arith, common_steps, b) in
+        (a, b, less, inr (omega arith, (omega arith, omega arith, early, inl (refl, h.1))))
 are-put epoch from value (l ∷ ls) early within (a, b, c, inr h) =
     let f : (l.death == never) ≡ false = grind (arith, common_steps, h.0) in
     rw f (a, b, c, inr (h.0, are-put epoch l.death value ls early h.0 h.1))
@@ -145,15 +151,18 @@ unseen-by test (m ∷ kept) n (zero, low, at) none = first (test m) refl
     first : (t : Bool) → test m ≡ t → test n ≡ false
     first true is = absurd (cc)
     first false is = subst (λ (x : ℕ). test x ≡ false) at is
-unseen-by test (m ∷ kept) n (suc k, low, at) none = first (test m) refl none (λ more. unseen-by test kept n (k, omega (arith, low), at) more)
+unseen-by test (m ∷ kept) n (suc k, low, at) none =
+    first (test m) refl none (λ more. unseen-by test kept n (k, omega (arith, low), at) more)
   where
-    first : (t : Bool) → test m ≡ t → list_any test (m ∷ kept) ≡ false → (list_any test kept ≡ false → test n ≡ false) → test n ≡ false
+    first : (t : Bool) → test m ≡ t → list_any test (m ∷ kept) ≡ false → (list_any test kept ≡ false → test n ≡ false)
+        → test n ≡ false
     first true is all more = absurd (cc)
     first false is all more = more (cc)
 
 -- a view of these numbers, and the live one, does not see a spent life
 pub unseen-spent : (kept : List ℕ) (n : ℕ) (l : Life) → Contains kept n → is_spent kept l ≡ true → sees (Snap n) l ≡ false
-unseen-spent kept n l here is = unseen-by (λ m. sees (Snap m) l) kept n here (by_test (l.death == never) (list_any (λ m. sees (Snap m) l) kept) is)
+unseen-spent kept n l here is = unseen-by (λ m. sees (Snap m) l) kept n here
+    (by_test (l.death == never) (list_any (λ m. sees (Snap m) l) kept) is)
   where
     by_test : (dead any : Bool) → (not dead && not any) ≡ true → any ≡ false
     by_test true any is = cc
@@ -181,10 +190,12 @@ seen-purge-by at kept (l ∷ ls) blind = by_test (is_spent kept l) refl (seen-pu
 pub seen-purge-live : (kept : List ℕ) (ls : List Life) → seen Live (purge_life kept ls) ≡ seen Live ls
 seen-purge-live kept ls = seen-purge-by Live kept ls (dead-spent kept)
 
-pub seen-purge-kept : (kept : List ℕ) (n : ℕ) (ls : List Life) → Contains kept n → seen (Snap n) (purge_life kept ls) ≡ seen (Snap n) ls
+pub seen-purge-kept : (kept : List ℕ) (n : ℕ) (ls : List Life) → Contains kept n → seen (Snap n) (purge_life kept ls) ≡ seen
+    (Snap n) ls
 seen-purge-kept kept n ls here = seen-purge-by (Snap n) kept ls (λ l. unseen-spent kept n l here)
 
-pub are-purge : (kept : List ℕ) (epoch from : ℕ) (ls : List Life) → AreLives epoch from ls → AreLives epoch from (purge_life kept ls)
+pub are-purge : (kept : List ℕ) (epoch from : ℕ) (ls : List Life) → AreLives epoch from ls
+    → AreLives epoch from (purge_life kept ls)
 unfolding AreLives
 are-purge kept epoch from [] are = tt
 are-purge kept epoch from (l ∷ ls) (a, b, c, inl h) = by_test (is_spent kept l) refl
@@ -194,6 +205,7 @@ are-purge kept epoch from (l ∷ ls) (a, b, c, inl h) = by_test (is_spent kept l
     by_test false is = (a, b, c, inl (h.0, ap (purge_life kept) h.1))
 are-purge kept epoch from (l ∷ ls) (a, b, c, inr h) = by_test (is_spent kept l) (are-purge kept epoch l.death ls h.1)
   where
-    by_test : (t : Bool) → AreLives epoch l.death (purge_life kept ls) → AreLives epoch from (if t then ls else l ∷ purge_life kept ls)
+    by_test : (t : Bool) → AreLives epoch l.death (purge_life kept ls)
+        → AreLives epoch from (if t then ls else l ∷ purge_life kept ls)
     by_test true are = are-from epoch l.death from ls (omega arith) h.1
     by_test false are = (a, b, c, inr (h.0, are))

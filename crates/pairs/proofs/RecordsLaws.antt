@@ -9,7 +9,8 @@ use Rattle.std.specs.Str.{bytes_eq}
 use Rattle.pair_types.specs.declared.quad.Quad.{Quad}
 use Rattle.pairs.specs.declared.at.At.{At}
 use Rattle.pairs.specs.declared.at.At.TheVariants.{Live, Snap}
-use Rattle.pairs.specs.Lives.{Life, never, sees, seen, born, new_life, put_life, del_life, is_spent, spent, purge_life, life_of, lives_of}
+use Rattle.pairs.specs.Lives.{Life, never, sees, seen, born, new_life, put_life, del_life, is_spent, spent, purge_life, life_of}
+use Rattle.pairs.specs.Lives.{lives_of}
 use Rattle.pairs.specs.Versions.{with_lives}
 use Rattle.pairs.proofs.VersionsLaws.{is-same, same-is, other-is, lives-here, lives-there}
 
@@ -48,7 +49,8 @@ pub find-behind : (test : Life → Bool) (ls ms : List Life) → find test ls �
 find-behind test [] ms none = refl
 find-behind test (l ∷ ls) ms none = by_test (test l) (find-behind test ls ms) none
   where
-    by_test : (t : Bool) → (find test ls ≡ None → find test (ls ++ ms) ≡ find test ms) → (if t then Some l else find test ls) ≡ None
+    by_test : (t : Bool) → (find test ls ≡ None → find test (ls ++ ms) ≡ find test ms)
+        → (if t then Some l else find test ls) ≡ None
         → (if t then Some l else find test (ls ++ ms)) ≡ find test ms
     by_test true ih none = cc
     by_test false ih none = ih none
@@ -70,19 +72,22 @@ put-behind epoch value (l ∷ ls) ms none = by_test (l.death == never) (put-behi
     by_test : (t : Bool) → (find (sees Live) ls ≡ None → put_life epoch value (ls ++ ms) ≡ ls ++ put_life epoch value ms)
         → (if t then Some l else find (sees Live) ls) ≡ None
         → (if t
-        then (if l.birth == epoch then new_life epoch value ∷ (ls ++ ms) else record l { death = epoch } ∷ (new_life epoch value ∷ (ls ++ ms)))
+        then (if l.birth == epoch then new_life epoch value ∷ (ls ++ ms) else record l { death = epoch }
+        ∷ (new_life epoch value ∷ (ls ++ ms)))
         else (l ∷ put_life epoch value (ls ++ ms)))
         ≡ l ∷ (ls ++ put_life epoch value ms)
     by_test true ih none = cc
     by_test false ih none = ap (λ (ns : List Life). l ∷ ns) (ih none)
 
-pub del-behind : (epoch : ℕ) (ls ms : List Life) → find (sees Live) ls ≡ None → del_life epoch (ls ++ ms) ≡ ls ++ del_life epoch ms
+pub del-behind : (epoch : ℕ) (ls ms : List Life) → find (sees Live) ls ≡ None → del_life epoch (ls ++ ms) ≡ ls
+    ++ del_life epoch ms
 del-behind epoch [] ms none = refl
 del-behind epoch (l ∷ ls) ms none = by_test (l.death == never) (del-behind epoch ls ms) none
   where
     by_test : (t : Bool) → (find (sees Live) ls ≡ None → del_life epoch (ls ++ ms) ≡ ls ++ del_life epoch ms)
         → (if t then Some l else find (sees Live) ls) ≡ None
-        → (if t then (if l.birth == epoch then (ls ++ ms) else record l { death = epoch } ∷ (ls ++ ms)) else (l ∷ del_life epoch (ls ++ ms)))
+        → (if t then (if l.birth == epoch then (ls ++ ms) else record l { death = epoch } ∷ (ls ++ ms))
+        else (l ∷ del_life epoch (ls ++ ms)))
         ≡ l ∷ (ls ++ del_life epoch ms)
     by_test true ih none = cc
     by_test false ih none = ap (λ (ns : List Life). l ∷ ns) (ih none)
@@ -113,7 +118,8 @@ lives_of-append (q ∷ qs) rs key = by_test (bytes_eq q.key key) (lives_of-appen
 pub lives_of-own : (q : Quad) (qs : List Quad) (key : List ℕ) → q.key ≡ key → lives_of (q ∷ qs) key ≡ life_of q ∷ lives_of qs key
 lives_of-own q qs key is = rw (subst (λ (k : List ℕ). bytes_eq q.key k ≡ true) is (is-same q.key)) refl
 
-pub lives_of-other : (q : Quad) (qs : List Quad) (key : List ℕ) → bytes_eq q.key key ≡ false → lives_of (q ∷ qs) key ≡ lives_of qs key
+pub lives_of-other : (q : Quad) (qs : List Quad) (key : List ℕ) → bytes_eq q.key key ≡ false
+    → lives_of (q ∷ qs) key ≡ lives_of qs key
 lives_of-other q qs key other = rw other refl
 
 -- a split at a record of the key: its life stands behind those of the records before it

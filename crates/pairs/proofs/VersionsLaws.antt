@@ -9,9 +9,11 @@ use Rattle.pair_types.specs.declared.slot.Slot.{Slot}
 use Rattle.pairs.specs.declared.at.At.{At}
 use Rattle.pairs.specs.declared.at.At.TheVariants.{Live, Snap}
 use Rattle.pairs.specs.Lives.{Life, never, seen, born, put_life, del_life, purge_life, AreLives}
-use Rattle.pairs.specs.Versions.{Versions, value_at, epoch, epoch_in, epoch_key, with_lives, with_put, with_del, with_purge, with_block}
+use Rattle.pairs.specs.Versions.{Versions, value_at, epoch, epoch_in, epoch_key, with_lives, with_put, with_del, with_purge}
+use Rattle.pairs.specs.Versions.{with_block}
 use Rattle.pairs.specs.Versions.{is_same_slot, HasLives, CanPut}
-use Rattle.pairs.proofs.LivesLaws.{are-later, seen-put, born-put, seen-put-later, seen-put-earlier, are-put, seen-del, seen-del-earlier}
+use Rattle.pairs.proofs.LivesLaws.{are-later, seen-put, born-put, seen-put-later, seen-put-earlier, are-put, seen-del}
+use Rattle.pairs.proofs.LivesLaws.{seen-del-earlier}
 use Rattle.pairs.proofs.LivesLaws.{are-del, seen-purge-live, seen-purge-kept, are-purge}
 
 -- ---- keys
@@ -29,7 +31,8 @@ pub lives-here : (key : List ℕ) (ls : List Life) (lives : List ℕ → List Li
 unfolding with_lives
 lives-here key ls lives = rw (is-same key) refl
 
-pub lives-there : (key k : List ℕ) (ls : List Life) (lives : List ℕ → List Life) → bytes_eq k key ≡ false → with_lives key ls lives k ≡ lives k
+pub lives-there : (key k : List ℕ) (ls : List Life) (lives : List ℕ → List Life) → bytes_eq k key ≡ false
+    → with_lives key ls lives k ≡ lives k
 unfolding with_lives
 lives-there key k ls lives other = rw other refl
 
@@ -39,7 +42,8 @@ pub at-each : (P : List ℕ → List Life → Type 0) (key : List ℕ) (ls : Lis
 at-each P key ls lives here there k = by_key (bytes_eq k key) refl
   where
     by_key : (t : Bool) → bytes_eq k key ≡ t → P k (with_lives key ls lives k)
-    by_key true is = subst (λ (j : List ℕ). P j (with_lives key ls lives j)) (sym (same-is k key is)) (subst (P key) (sym (lives-here key ls lives)) here)
+    by_key true is = subst (λ (j : List ℕ). P j (with_lives key ls lives j)) (sym (same-is k key is))
+        (subst (P key) (sym (lives-here key ls lives)) here)
     by_key false is = subst (P k) (sym (lives-there key k ls lives is)) (there k)
 
 -- ---- puts
@@ -50,7 +54,8 @@ live-put key value v can =
     ap (seen Live) (lives-here key (put_life (epoch v) value (v.lives key)) v.lives)
     ∙ seen-put (epoch v) 0 value (v.lives key) can.lives.early (can.lives.lives key)
 
-pub birth-put : (key value : List ℕ) (v : Versions) → CanPut key value v → born ((with_put key value v).lives key) ≡ Some (epoch v)
+pub birth-put : (key value : List ℕ) (v : Versions) → CanPut key value v → born ((with_put key value v).lives key) ≡ Some
+    (epoch v)
 unfolding with_put
 birth-put key value v can =
     ap born (lives-here key (put_life (epoch v) value (v.lives key)) v.lives)
@@ -70,25 +75,31 @@ earlier-put key value k v n can late =
     at-each (λ j ls. seen (Snap n) ls ≡ seen (Snap n) (v.lives j)) key (put_life (epoch v) value (v.lives key)) v.lives
     (seen-put-earlier n (epoch v) 0 value (v.lives key) late can.lives.early (can.lives.lives key)) (λ j. refl) k
 
-pub others-put : (key value k : List ℕ) (v : Versions) (at : At) → k ≢ key → value_at at (with_put key value v) k ≡ value_at at v k
+pub others-put : (key value k : List ℕ) (v : Versions) (at : At) → k ≢ key → value_at at (with_put key value v) k ≡ value_at at v
+    k
 unfolding with_put
-others-put key value k v at other = ap (seen at) (lives-there key k (put_life (epoch v) value (v.lives key)) v.lives (other-is k key other))
+others-put key value k v at other = ap (seen at) (lives-there key k (put_life (epoch v) value (v.lives key)) v.lives
+    (other-is k key other))
 
 -- the epoch behind a put: that of the value, at the key of the epoch
-epoch-put-here : (key value : List ℕ) (v : Versions) → CanPut key value v → key ≡ epoch_key → epoch (with_put key value v) ≡ epoch_in (Some value)
+epoch-put-here : (key value : List ℕ) (v : Versions) → CanPut key value v → key ≡ epoch_key
+    → epoch (with_put key value v) ≡ epoch_in (Some value)
 unfolding epoch
-epoch-put-here key value v can is = ap epoch_in (subst (λ (k : List ℕ). value_at Live (with_put key value v) k ≡ Some value) is (live-put key value v can))
+epoch-put-here key value v can is = ap epoch_in (subst (λ (k : List ℕ). value_at Live (with_put key value v) k ≡ Some value) is
+    (live-put key value v can))
 
 epoch-put-there : (key value : List ℕ) (v : Versions) → epoch_key ≢ key → epoch (with_put key value v) ≡ epoch v
 unfolding epoch
 epoch-put-there key value v other = ap epoch_in (others-put key value epoch_key v Live other)
 
 -- lives up to an epoch that is no earlier
-lives-put-to : (key value : List ℕ) (v : Versions) (e : ℕ) → CanPut key value v → epoch v ≤ e → (k : List ℕ) → AreLives e 0 ((with_put key value v).lives k)
+lives-put-to : (key value : List ℕ) (v : Versions) (e : ℕ) → CanPut key value v → epoch v ≤ e → (k : List ℕ)
+    → AreLives e 0 ((with_put key value v).lives k)
 unfolding with_put
 lives-put-to key value v e can up =
     at-each (λ j ls. AreLives e 0 ls) key (put_life (epoch v) value (v.lives key)) v.lives
-    (are-later (epoch v) e 0 (put_life (epoch v) value (v.lives key)) up (are-put (epoch v) 0 value (v.lives key) can.lives.early (omega arith) (can.lives.lives key)))
+    (are-later (epoch v) e 0 (put_life (epoch v) value (v.lives key)) up (are-put (epoch v) 0 value (v.lives key) can.lives.early
+    (omega arith) (can.lives.lives key)))
     (λ j. are-later (epoch v) e 0 (v.lives j) up (can.lives.lives j))
 
 pub has-put : (key value : List ℕ) (v : Versions) → CanPut key value v → HasLives (with_put key value v)
@@ -105,7 +116,8 @@ has-put key value v can = by_key (bytes_eq epoch_key key) refl
       where
         differs : epoch_key ≡ key → bytes_eq epoch_key key ≡ false → ⊥
         differs same is =
-            let t : bytes_eq epoch_key key ≡ true = subst (λ (k : List ℕ). bytes_eq epoch_key k ≡ true) same (is-same epoch_key) in
+            let t : bytes_eq epoch_key key ≡ true = subst (λ (k : List ℕ). bytes_eq epoch_key k ≡ true) same (is-same epoch_key)
+            in
             cc
 
 -- ---- dels
@@ -113,7 +125,8 @@ has-put key value v can = by_key (bytes_eq epoch_key key) refl
 pub live-del : (key : List ℕ) (v : Versions) → HasLives v → value_at Live (with_del key v) key ≡ None
 unfolding with_del
 live-del key v h =
-    ap (seen Live) (lives-here key (del_life (epoch v) (v.lives key)) v.lives) ∙ seen-del (epoch v) 0 (v.lives key) h.early (h.lives key)
+    ap (seen Live) (lives-here key (del_life (epoch v) (v.lives key)) v.lives) ∙ seen-del (epoch v) 0 (v.lives key) h.early
+    (h.lives key)
 
 pub earlier-del : (key k : List ℕ) (v : Versions) (n : ℕ) → HasLives v → n < epoch v
     → value_at (Snap n) (with_del key v) k ≡ value_at (Snap n) v k
@@ -146,7 +159,8 @@ has-del key v other h =
 pub live-purge : (kept key k : List ℕ) (v : Versions) → value_at Live (with_purge kept key v) k ≡ value_at Live v k
 unfolding with_purge
 live-purge kept key k v =
-    at-each (λ j ls. seen Live ls ≡ seen Live (v.lives j)) key (purge_life kept (v.lives key)) v.lives (seen-purge-live kept (v.lives key)) (λ j. refl) k
+    at-each (λ j ls. seen Live ls ≡ seen Live (v.lives j)) key (purge_life kept (v.lives key)) v.lives
+    (seen-purge-live kept (v.lives key)) (λ j. refl) k
 
 pub kept-purge : (kept key k : List ℕ) (v : Versions) (n : ℕ) → Contains kept n
     → value_at (Snap n) (with_purge kept key v) k ≡ value_at (Snap n) v k
@@ -159,10 +173,12 @@ epoch-purge : (kept key : List ℕ) (v : Versions) → epoch (with_purge kept ke
 unfolding epoch
 epoch-purge kept key v = ap epoch_in (live-purge kept key epoch_key v)
 
-lives-purge : (kept key : List ℕ) (v : Versions) → HasLives v → (k : List ℕ) → AreLives (epoch v) 0 ((with_purge kept key v).lives k)
+lives-purge : (kept key : List ℕ) (v : Versions) → HasLives v → (k : List ℕ)
+    → AreLives (epoch v) 0 ((with_purge kept key v).lives k)
 unfolding with_purge
 lives-purge kept key v h =
-    at-each (λ j ls. AreLives (epoch v) 0 ls) key (purge_life kept (v.lives key)) v.lives (are-purge kept (epoch v) 0 (v.lives key) (h.lives key)) h.lives
+    at-each (λ j ls. AreLives (epoch v) 0 ls) key (purge_life kept (v.lives key)) v.lives
+    (are-purge kept (epoch v) 0 (v.lives key) (h.lives key)) h.lives
 
 pub has-purge : (kept key : List ℕ) (v : Versions) → HasLives v → HasLives (with_purge kept key v)
 has-purge kept key v h =

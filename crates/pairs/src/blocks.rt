@@ -1,6 +1,6 @@
 //! Blocks beside the pairs.
 
-ghost use Rattle.std.specs.Prelude.{◌≡◌, ◌<◌, ◌≤◌, ⊤, ℕ, List, [], length, Some, None, IfOk, OnOk, IfErr};
+ghost use Rattle.std.specs.Prelude.{◌≡◌, ◌<◌, ◌≤◌, ◌+◌, ◌%◌, ⊤, ℕ, List, [], length, Some, None, IfOk, OnOk, IfErr};
 ghost use Rattle.pairs.specs.Versions.{Versions, IsBlock, with_block};
 ghost use Rattle.pairs.specs.Told.{Goes, Tells, Moves, GivesUp};
 ghost use Rattle.pairs.specs.Found.{Fills, IsFresh};
@@ -8,12 +8,22 @@ ghost use Rattle.pairs.specs.Found.{Fills, IsFresh};
 use crate::pairs::Pairs;
 use pair_types::{PairFault, Slot};
 
+/// The store where a file's block of this index belongs, among so many.
+pub fn store_for(file: u64, index: u64, stores: u32) -> u32
+    requires { 0 < stores }
+    ensures { result ≡ (file + index) % stores }
+{
+    let sum = u128::from(file) + u128::from(index);
+    (sum % u128::from(stores)) as u32
+}
+
 /// Blocks of bytes, of at most 8,192 bytes each, in slots of the stores beside the pairs.
 pub trait Blocks: Pairs {
     /// The number of stores, at least one, which no call changes. It takes no memory.
     fn stores(&self) -> u32
         ensures some { 0 < result }
-        ensures shown { (w : Self.World) (v : Versions) → Self.told.agrees self.now w → Self.told.shows self.now w v → v.stores ≡ result };
+        ensures shown { (w : Self.World) (v : Versions) → Self.told.agrees self.now w → Self.told.shows self.now w v
+            → v.stores ≡ result };
 
     /// Puts the first bytes of a block into the room, as many as it has room for, and answers how many they are.
     fn read_block(&mut self, s: Slot, room: &mut [u8]) -> Result<usize, PairFault>

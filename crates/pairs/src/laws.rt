@@ -12,7 +12,8 @@ ghost use Rattle.pairs.specs.Versions.{with_put, with_del, with_purge, with_bloc
 /// A value that is put is what the live view sees at its key, born in the epoch, and a view of the epoch or later too; a
 /// view of an earlier number stays, at each key; and so does every view at other keys. Lives stay in order.
 pub fn puts_are_seen()
-    ensures live { (key value : List ℕ) (v : Versions) → CanPut key value v → value_at Live (with_put key value v) key ≡ Some value }
+    ensures live { (key value : List ℕ) (v : Versions) → CanPut key value v → value_at Live (with_put key value v) key ≡ Some
+        value }
     ensures born { (key value : List ℕ) (v : Versions) → CanPut key value v →
         born ((with_put key value v).lives key) ≡ Some (epoch v) }
     ensures later { (key value : List ℕ) (v : Versions) (n : ℕ) → CanPut key value v → epoch v ≤ n → n < never →

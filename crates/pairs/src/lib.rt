@@ -18,5 +18,5 @@ pub mod laws;
 mod pairs;
 
 pub use at::{At, Purged};
-pub use blocks::Blocks;
+pub use blocks::{Blocks, store_for};
 pub use pairs::Pairs;
