@@ -3,8 +3,8 @@
 
     crates/page_checks/steps.py
 
-The same draws at each run. Of the pages' shapes it knows two: a new tree is one leaf; and five records of the greatest
-size fill a leaf, and a sixth divides it.
+The same draws at each run. Of the pages' shapes it knows three: a new tree is one leaf; five records of the greatest
+size fill a leaf, and a sixth divides it; and a page has 4 bytes, and 20 more for a record beside its key and its value.
 """
 
 import bisect
@@ -12,6 +12,7 @@ import pathlib
 
 NEVER = 2**64 - 1
 LARGEST_KEY, LARGEST_VALUE = 264, 1200
+PAGE, MOST = 8192, 400
 
 
 class Model:
@@ -93,6 +94,13 @@ def largest_records_divide_a_page(m):
         m.say("root", told=f"level 0 cells {n + 1}" if n < 5 else "level 1 cells 2")
 
 
+def a_leaf_takes_what_has_room(m):
+    for key, length in [(LARGEST_KEY, LARGEST_VALUE), (LARGEST_KEY, 0), (9, 13), (1, 0)]:
+        cells = (PAGE - 4) // (20 + key + length)
+        told = f"cells {cells}, too big for a page" if cells < MOST else f"cells {MOST}"
+        m.say("fill", "k" * key, 0, NEVER, length, told=told)
+
+
 def versions_of_a_key_are_told_apart(m):
     m.new()
     m.find("seek", "", 0)
@@ -137,6 +145,7 @@ def main():
     for part in [
         many_come_in_and_every_other_one_goes,
         largest_records_divide_a_page,
+        a_leaf_takes_what_has_room,
         versions_of_a_key_are_told_apart,
         records_come_and_go_in_any_order,
     ]:

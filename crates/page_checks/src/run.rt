@@ -1,5 +1,7 @@
 //! Steps, done on a tree.
 
+ghost use Rattle.btree_page.specs.Tree.{IsRecord};
+
 use crate::step::{self, Step};
 use anyhow::{Result, bail, ensure};
 use btree_edit::{end, insert, remove, replace};
@@ -43,6 +45,23 @@ fn told_root(alloc: Global, pages: &mut MemPages) -> Result<String> {
     }
 }
 
+/// The most cells that a leaf is tried with.
+const MOST: u64 = 400;
+
+/// How many records of one key, born at 0, 1, 2 and so on, have room in a leaf, and why not one more.
+fn fill(alloc: Global, q: &Quad) -> Result<String>
+    requires { IsRecord q.now }
+{
+    let mut page = PageBuilder::new(alloc, 0)?;
+    for birth in 0..MOST {
+        let added = page.add_leaf(q.key.as_slice(), birth, q.death, q.value.as_slice());
+        if let Err(fault) = added {
+            return Ok(format!(in alloc; "cells {birth}, {fault}")?);
+        }
+    }
+    Ok(format!(in alloc; "cells {MOST}")?)
+}
+
 /// Does a step, and answers what is said of it.
 fn run(alloc: Global, pages: &mut MemPages, step: &Step) -> Result<String> {
     ensure!(0 < pages.stores(), "there is no store");
@@ -53,6 +72,7 @@ fn run(alloc: Global, pages: &mut MemPages, step: &Step) -> Result<String> {
             pages.set(ROOT, PageBuilder::new(alloc, 0)?.finish()?)?;
             Ok(String::from_str(alloc, "new")?)
         }
+        "fill" => fill(alloc, q),
         "insert" => match insert(alloc, pages, q, 0) {
             Ok(()) => Ok(String::from_str(alloc, "inserted")?),
             Err(fault) => told::<bool>(alloc, Err(fault)),
