@@ -1,0 +1,4 @@
+pub mod Gaining
+pub mod Leaving
+pub mod Looked
+pub mod Putting

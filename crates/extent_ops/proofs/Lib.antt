@@ -1,0 +1,11 @@
+pub mod Chaining
+pub mod Among
+pub mod Keys
+pub mod Changing
+pub mod Showing
+pub mod Filling
+pub mod Setting
+pub mod Overlaying
+pub mod Placed
+pub mod Trimming
+pub mod Contents

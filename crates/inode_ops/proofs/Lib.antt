@@ -1,0 +1,3 @@
+pub mod Revising
+pub mod Losing
+pub mod Loading

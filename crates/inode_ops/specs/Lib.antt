@@ -1,0 +1,4 @@
+pub mod Saving
+pub mod Changes
+pub mod Giving
+pub mod Losing

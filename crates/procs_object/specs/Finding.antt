@@ -1,0 +1,40 @@
+-- What a handle leads to, as records tell it.
+use Rattle.std.specs.Prelude.{ℕ, ◌≡◌, List, Option, Some, None, Result, Ok, Err, IfSome}
+use Rattle.nfs3_types.specs.Handles.{handle_in}
+use Rattle.fs_rules.specs.Checks.{Check}
+use Rattle.fs_rules.specs.Places.{Object, object_by, node_at, attributes}
+use Rattle.fs_rules.specs.Sound.{IsSound}
+use Rattle.fs_rules.specs.Tree.{Tree, Node}
+use Rattle.pairs.specs.Told.{PairsTold}
+use Rattle.fs_keys.specs.declared.rows.First.{First}
+use Rattle.fs_shows.specs.declared.halt.Halt.{Halt}
+use Rattle.fs_shows.specs.declared.halt.Halt.TheVariants.{Refused, Fault}
+use Rattle.fs_shows.specs.Nodes.{IsInodeOf}
+use Rattle.fs_shows.specs.Shows.{first_of}
+use Rattle.fs_shows.specs.Steps.{Reads, GivesUpOn}
+use Rattle.procs_object.specs.declared.object.Found.{Found}
+
+-- a handle of the live tree, or one that is none of this service's
+abbrev pub IsOfLive : List ℕ → Type 0
+IsOfLive handle = IfSome (handle_in handle) (λ h. h.snapshot ≡ 0)
+
+-- the tree is sound, and this is its first record
+pub record Begins (row : First) (t : Tree) : Type 0 where
+  pub sound : IsSound t
+  pub first : first_of t ≡ row
+
+-- what was found, by its place, its inode and its attributes, is this object of the tree
+pub record IsObject (t : Tree) (x : Found) (o : Object) : Type 0 where
+  pub node : Node
+  pub there : node_at t x.place ≡ Some node
+  pub inode : IsInodeOf x.inode node
+  pub is : o ≡ object_by x.place node
+  pub attributes : attributes t o ≡ x.attributes
+
+module _ {S W : Type 0} (told : PairsTold S W) (old new : S) where
+  -- Reads that answer as a check of the answer table does, on each tree of which this much is given: what was found stands,
+  -- in the tree, for what the check finds, or the status is that of its refusal.
+  abbrev pub CheckedOn : {A X : Type 0} → (Tree → Type 0) → (Tree → X → A → Type 0) → (Tree → Check A) → Result X Halt → Type 0
+  CheckedOn {A = A} Given Finds check (Ok x) = Reads told old new Given (λ t. (a : A) × (check t ≡ Ok a) × Finds t x a)
+  CheckedOn Given Finds check (Err (Refused status)) = Reads told old new Given (λ t. check t ≡ Err status)
+  CheckedOn Given Finds check (Err (Fault fault)) = GivesUpOn told old new Given fault

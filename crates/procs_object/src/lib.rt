@@ -1,0 +1,15 @@
+//! The procedures on one object, as transactions over records: GETATTR, SETATTR without a size, ACCESS, READLINK, FSSTAT, FSINFO
+//! and PATHCONF, on the live tree.
+//!
+//! It promises of each, whatever it reads: it ends as its row of the answer table says, on every sound tree that may lie below,
+//! and the tree that lies below then is the row's; or it gives up, and why (`Performs`). It stands on `inode_ops` for reads and
+//! edits of records, on `fs_shows` for what they show as a tree, and on `fs_rules` for the table and its rules.
+#![tactic(auto)]
+
+mod object;
+mod setting;
+mod telling;
+
+pub use object::{Found, find_object, is_of_live, see};
+pub use setting::set_attr;
+pub use telling::{access, fs_info, fs_stat, get_attr, path_conf, read_link};
