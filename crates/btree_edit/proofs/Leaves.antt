@@ -1,5 +1,6 @@
 -- Where a record stands in a leaf, and what a leaf holds without it.
-use Rattle.std.proofs.Common.{◌≡◌, ◌≢◌, ⊎_elim, ℕ, zero, suc, ◌<◌, ◌≤◌, true, false, List, [], ◌∷◌, length, get_or, Some, refl, ap, ◌∙◌, arith}
+use Rattle.std.proofs.Common.{◌≡◌, ◌≢◌, ⊎_elim, ℕ, zero, suc, ◌<◌, ◌≤◌, true, false, List, [], ◌∷◌, length, get_or, Some, refl}
+use Rattle.std.proofs.Common.{ap, ◌∙◌, arith}
 use Rattle.std.specs.Prelude.{All, slice_get}
 use Rattle.std.proofs.lemmas.Bool.{cases_lt}
 use Rattle.std.proofs.lemmas.Cmp.{tied_itself}
@@ -19,7 +20,8 @@ use Rattle.btree_edit.proofs.Lists.{there}
 -- places that compare as equal are equal
 pub bound_exact : (a b : Bound) → bound_cmp a b ≡ Equal → a ≡ b
 bound_exact a b e =
-    let pairs : (a.key, a.birth) ≡ (b.key, b.birth) = exact_pairs (slice_cmp nat_cmp) nat_cmp exact_bytes exact_unsigned (a.key, a.birth) (b.key, b.birth) e in
+    let pairs : (a.key, a.birth) ≡ (b.key, b.birth) = exact_pairs (slice_cmp nat_cmp) nat_cmp exact_bytes exact_unsigned
+    (a.key, a.birth) (b.key, b.birth) e in
     ap (λ (p : List ℕ × ℕ). let made : Bound = record { key = p.0; birth = p.1 } in made) pairs
 
 equal_so : (o : Ordering) → is_sought AtOrAfter o ≡ true → is_sought After o ≡ false → o ≡ Equal
@@ -32,9 +34,11 @@ at_itself aim pair e is =
     ap (λ (o : Ordering). is_sought aim o) (ap (λ (b : Bound). bound_cmp b pair) is ∙ tied_itself bound_total pair)
 
 -- no cell lies between those at or after the pair and those after it
-pub none_at : (pair : Bound) (cells : List Entry) (at past : ℕ) → BeginsAt AtOrAfter pair cells at → BeginsAt After pair cells past → at ≡ past
+pub none_at : (pair : Bound) (cells : List Entry) (at past : ℕ) → BeginsAt AtOrAfter pair cells at
+    → BeginsAt After pair cells past → at ≡ past
     → All (λ e. bound_of e ≢ pair) cells
-none_at pair cells at past h k is = λ i d lt same. ⊎_elim (λ low. before i d lt same low) (λ high. behind i d lt same high) (cases_lt i at)
+none_at pair cells at past h k is = λ i d lt same. ⊎_elim (λ low. before i d lt same low) (λ high. behind i d lt same high)
+    (cases_lt i at)
   where
     before : (i : ℕ) (d : Entry) → i < length cells → bound_of (get_or cells i d) ≡ pair → i < at → ⊥
     before i d lt same low =
@@ -47,7 +51,8 @@ none_at pair cells at past h k is = λ i d lt same. ⊎_elim (λ low. before i d
         let other = at_itself After pair (get_or cells i d) same in cc
 
 -- the one between them stands at the pair
-pub found_at : (pair : Bound) (cells : List Entry) (at past : ℕ) → BeginsAt AtOrAfter pair cells at → BeginsAt After pair cells past → at ≢ past
+pub found_at : (pair : Bound) (cells : List Entry) (at past : ℕ) → BeginsAt AtOrAfter pair cells at
+    → BeginsAt After pair cells past → at ≢ past
     → (at < length cells) × ((e : Entry) → slice_get cells at ≡ Some e → bound_of e ≡ pair)
 found_at pair cells at past h k isnt =
     let lt : at < past = ⊎_elim (λ low. low) (λ high. absurd (crossed high)) (cases_lt at past) in

@@ -1,9 +1,11 @@
 -- Lists of cells: their parts, how long they are spelled, and what is left without one.
-use Rattle.std.proofs.Common.{◌≡◌, ℕ, zero, suc, ◌+◌, ◌<◌, ◌≤◌, Bool, true, List, [], ◌∷◌, ◌++◌, map, length, take, drop, Option, Some, None, get_or, refl, sym, ap, subst, ◌∙◌, arith}
+use Rattle.std.proofs.Common.{◌≡◌, ℕ, zero, suc, ◌+◌, ◌<◌, ◌≤◌, Bool, true, List, [], ◌∷◌, ◌++◌, map, length, take, drop, Option}
+use Rattle.std.proofs.Common.{Some, None, get_or, refl, sym, ap, subst, ◌∙◌, arith}
 use Rattle.std.specs.Prelude.{◌==◌, slice_get}
 use Rattle.std.specs.List.{flat_map, remove}
 use Rattle.std.proofs.lemmas.List.{length-append, map-append}
-use Rattle.btree_page.specs.Content.{Bound, Entry, Content, bound_of, head, spelling, entry_spelling, Follows, AreCells, last_bound, IsPage, IsNext, with_cell}
+use Rattle.btree_page.specs.Content.{Bound, Entry, Content, bound_of, head, spelling, entry_spelling, Follows, AreCells}
+use Rattle.btree_page.specs.Content.{last_bound, IsPage, IsNext, with_cell}
 use Rattle.btree_page.specs.declared.cell.Cell.{Cell}
 use Rattle.btree_page.specs.Cells.{entry_of}
 use Rattle.btree_page.proofs.Cells.{cells_many}
@@ -16,12 +18,24 @@ size_of_page level cells = omega (arith, length-append (head level (length cells
 pub size-append : (xs ys : List Entry) → size (xs ++ ys) ≡ size xs + size ys
 size-append [] ys = omega arith
 size-append (x ∷ xs) ys =
-    omega (arith, size-append xs ys, length-append (entry_spelling x) (flat_map entry_spelling (xs ++ ys)), length-append (entry_spelling x) (flat_map entry_spelling xs))
+    omega (
+      arith,
+      size-append xs ys,
+      length-append (entry_spelling x) (flat_map entry_spelling (xs ++ ys)),
+      length-append
+          (entry_spelling x) (flat_map entry_spelling xs),
+    )
 
 -- a page has few cells
 pub few_cells : (content : Content) → IsPage content → length content.cells ≤ 8192
 few_cells content rules =
-    omega (arith, cells_many (content.level == 0) None content.cells rules.cells, rules.size, size_of_page content.level content.cells)
+    omega (
+      arith,
+      cells_many (content.level == 0) None content.cells rules.cells,
+      rules.size,
+      size_of_page content.level
+          content.cells,
+    )
 
 -- ---- parts
 
@@ -31,13 +45,15 @@ parts_of_cells is_leaf before [] ys h = (tt, h)
 parts_of_cells is_leaf before (x ∷ xs) ys h =
     let more = parts_of_cells is_leaf (Some (bound_of x)) xs ys h.1.1 in ((h.0, (h.1.0, more.0)), more.1)
 
-pub joined_cells : (is_leaf : Bool) (before : Option Bound) (xs ys : List Entry) → AreCells is_leaf before xs → AreCells is_leaf (last_bound before xs) ys
+pub joined_cells : (is_leaf : Bool) (before : Option Bound) (xs ys : List Entry) → AreCells is_leaf before xs
+    → AreCells is_leaf (last_bound before xs) ys
     → AreCells is_leaf before (xs ++ ys)
 joined_cells is_leaf before [] ys h k = k
 joined_cells is_leaf before (x ∷ xs) ys h k = (h.0, (h.1.0, joined_cells is_leaf (Some (bound_of x)) xs ys h.1.1 k))
 
 -- the list before a place, what stands there, and the list behind it
-pub at_place : {A : Type 0} (xs : List A) (i : ℕ) → i < length xs → (x : A) × (slice_get xs i ≡ Some x) × (xs ≡ take i xs ++ (x ∷ drop (suc i) xs))
+pub at_place : {A : Type 0} (xs : List A) (i : ℕ) → i < length xs → (x : A) × (slice_get xs i ≡ Some x)
+    × (xs ≡ take i xs ++ (x ∷ drop (suc i) xs))
 at_place [] i lt = absurd (omega arith)
 at_place (x ∷ xs) zero lt = (x, refl, refl)
 at_place (x ∷ xs) (suc i) lt =
@@ -52,7 +68,8 @@ map_remove f (x ∷ xs) (suc i) = ap (λ (ys : List _). f x ∷ ys) (map_remove 
 -- ---- a leaf without one cell
 
 -- cells above a cell are above what stood before it
-pub above_before : (before : Option Bound) (e : Entry) (ys : List Entry) → Follows true before e → AreCells true (Some (bound_of e)) ys → AreCells true before ys
+pub above_before : (before : Option Bound) (e : Entry) (ys : List Entry) → Follows true before e
+    → AreCells true (Some (bound_of e)) ys → AreCells true before ys
 above_before before e [] h k = tt
 above_before None e (y ∷ ys) h k = (k.0, (tt, k.1.1))
 above_before (Some b) e (y ∷ ys) h k = (k.0, (bound_total.trans b (bound_of e) (bound_of y) h k.1.0, k.1.1))
@@ -78,14 +95,19 @@ mapped_at f (x ∷ xs) (suc i) d lt = ap (λ (ys : List _). f x ∷ ys) (mapped_
 
 -- the next of these cells may be added, and there is room for it
 pub next_cell : (level : ℕ) (cells : List Cell) (i : ℕ) (d : Cell) (built : Content) → i < length cells
-    → IsPage (record { level = level; cells = map entry_of cells }) → built ≡ record { level = level; cells = map entry_of (take i cells) }
+    → IsPage (record { level = level; cells = map entry_of cells }) → built ≡ record {
+      level = level;
+      cells =
+          map entry_of (take i cells);
+    }
     → IsNext built (entry_of (get_or cells i d)) × (length (spelling (with_cell built (entry_of (get_or cells i d)))) ≤ 8192)
 next_cell level cells i d built lt rules is =
     let e = entry_of (get_or cells i d) in
     let front = map entry_of (take i cells) in
     let back = map entry_of (drop (suc i) cells) in
     let split : map entry_of cells ≡ front ++ (e ∷ back) = mapped_at entry_of cells i d lt in
-    let parts = parts_of_cells (level == 0) None front (e ∷ back) (subst (λ (cs : List Entry). AreCells (level == 0) None cs) split rules.cells) in
+    let parts = parts_of_cells (level == 0) None front (e ∷ back) (subst (λ (cs : List Entry). AreCells (level == 0) None cs)
+    split rules.cells) in
     let here : Content = record { level = level; cells = front } in
     let next : IsNext here e = record { fits = parts.1.0; follows = parts.1.1.0 } in
     let room : length (spelling (with_cell here e)) ≤ 8192 =
@@ -109,13 +131,15 @@ pub built_next : (level : ℕ) (cells : List Cell) (i : ℕ) (d : Cell) (built m
 built_next level cells i d built more lt is with =
     let e = entry_of (get_or cells i d) in
     let grown : map entry_of (take (suc i) cells) ≡ map entry_of (take i cells) ++ (e ∷ []) =
-    ap (λ (xs : List Cell). map entry_of xs) (take_next cells i (get_or cells i d) (there cells i d lt)) ∙ map-append entry_of (take i cells) (get_or cells i d ∷ []) in
+    ap (λ (xs : List Cell). map entry_of xs) (take_next cells i (get_or cells i d) (there cells i d lt))
+    ∙ map-append entry_of (take i cells) (get_or cells i d ∷ []) in
     with
     ∙ (ap (λ (c : Content). with_cell c e) is
     ∙ ap (λ (cs : List Entry). let made : Content = record { level = level; cells = cs } in made) (sym grown))
 
 -- one cell more was taken from a page
-pub taken_next : (entries : List Entry) (xs ys : List Cell) (i : ℕ) (x : Cell) → map entry_of xs ≡ take i entries → slice_get entries i ≡ Some (entry_of x)
+pub taken_next : (entries : List Entry) (xs ys : List Cell) (i : ℕ) (x : Cell) → map entry_of xs ≡ take i entries
+    → slice_get entries i ≡ Some (entry_of x)
     → ys ≡ xs ++ (x ∷ []) → map entry_of ys ≡ take (suc i) entries
 taken_next entries xs ys i x so_far at is =
     ap (λ (cs : List Cell). map entry_of cs) is

@@ -1,5 +1,6 @@
 -- A part of a tree as its uppermost page and what lies below that.
-use Rattle.std.proofs.Common.{◌≡◌, ◌≢◌, ◌⊎◌, ⊎_elim, inl, inr, ℕ, zero, suc, List, [], ◌∷◌, ◌++◌, map, Option, Some, None, IsSome, refl, ap, subst, ◌∙◌}
+use Rattle.std.proofs.Common.{◌≡◌, ◌≢◌, ◌⊎◌, ⊎_elim, inl, inr, ℕ, zero, suc, List, [], ◌∷◌, ◌++◌, map, Option, Some, None, IsSome}
+use Rattle.std.proofs.Common.{refl, ap, subst, ◌∙◌}
 use Rattle.std.proofs.lemmas.Bool.{cases_eq}
 use Rattle.pair_types.specs.declared.slot.Slot.{Slot}
 use Rattle.pair_types.specs.declared.quad.Quad.{Quad}
@@ -9,7 +10,8 @@ use Rattle.btree_page.specs.Tree.{Holds, Among, quad_cell, Child, child_cell, Ki
 use Rattle.btree_page.proofs.Trees.{among_left, among_right, among_either, keeps_trees, reaches_pages}
 use Rattle.btree_edit.specs.Below.{Bears}
 
-pub record Seated (p : PageMap) (level : ℕ) (slot : Slot) (low : Bound) (high : Option Bound) (quads : List Quad) (slots : List Slot) : Type 0 where
+pub record Seated (p : PageMap) (level : ℕ) (slot : Slot) (low : Bound) (high : Option Bound) (quads : List Quad)
+    (slots : List Slot) : Type 0 where
   pub below : List Slot
   pub cells : List Entry
   pub page : Holds p slot (record { level = level; cells = cells })
@@ -56,7 +58,8 @@ closed p (suc level) slot low high quads slots h = record {
 
 -- ---- the frame
 
-pub kids_keep : (p q : PageMap) (level : ℕ) (rest : List Child) (first : Slot) (low : Bound) (high : Option Bound) (quads : List Quad) (slots : List Slot)
+pub kids_keep : (p q : PageMap) (level : ℕ) (rest : List Child) (first : Slot) (low : Bound) (high : Option Bound)
+    (quads : List Quad) (slots : List Slot)
     → Kids (Subtree p level) first low rest high quads slots → ((s : Slot) → Among s slots → q s ≡ p s)
     → Kids (Subtree q level) first low rest high quads slots
 kids_keep p q level [] first low high quads slots h same = keeps_trees p q level first low high quads slots h same
@@ -68,15 +71,19 @@ kids_keep p q level (next ∷ rest) first low high quads slots h same =
       quads_right = h.quads_right;
       slots_left = h.slots_left;
       slots_right = h.slots_right;
-      left = keeps_trees p q level first low (Some next.bound) h.quads_left h.slots_left h.left (λ s here. there s (among_left s h.slots_left h.slots_right here));
-      right = kids_keep p q level rest next.slot next.bound high h.quads_right h.slots_right h.right (λ s here. there s (among_right s h.slots_left h.slots_right here));
+      left = keeps_trees p q level first low (Some next.bound) h.quads_left h.slots_left h.left
+          (λ s here. there s (among_left s h.slots_left h.slots_right here));
+      right = kids_keep p q level rest next.slot next.bound high h.quads_right h.slots_right h.right
+          (λ s here. there s (among_right s h.slots_left h.slots_right here));
       all_quads = h.all_quads;
       all_slots = h.all_slots;
       apart = h.apart;
     }
 
-pub bears_keep : (p q : PageMap) (level : ℕ) (cells : List Entry) (low : Bound) (high : Option Bound) (quads : List Quad) (below : List Slot)
-    → Bears p level cells low high quads below → ((s : Slot) → Among s below → q s ≡ p s) → Bears q level cells low high quads below
+pub bears_keep : (p q : PageMap) (level : ℕ) (cells : List Entry) (low : Bound) (high : Option Bound) (quads : List Quad)
+    (below : List Slot)
+    → Bears p level cells low high quads below → ((s : Slot) → Among s below → q s ≡ p s)
+    → Bears q level cells low high quads below
 bears_keep p q zero cells low high quads below h same = record { records = h.records; within = h.within; nothing = h.nothing }
 bears_keep p q (suc level) cells low high quads below h same = record {
   first = h.first;
@@ -88,7 +95,8 @@ bears_keep p q (suc level) cells low high quads below h same = record {
 
 -- ---- no reached slot is absent
 
-pub kids_present : (p : PageMap) (level : ℕ) (rest : List Child) (first : Slot) (low : Bound) (high : Option Bound) (quads : List Quad) (slots : List Slot)
+pub kids_present : (p : PageMap) (level : ℕ) (rest : List Child) (first : Slot) (low : Bound) (high : Option Bound)
+    (quads : List Quad) (slots : List Slot)
     → Kids (Subtree p level) first low rest high quads slots → (s : Slot) → Among s slots → IsSome (p s)
 kids_present p level [] first low high quads slots h s here = reaches_pages p level first low high quads slots h s here
 kids_present p level (next ∷ rest) first low high quads slots h s here =
@@ -114,5 +122,6 @@ slot_cases s t =
   where
     same : s.store ≡ t.store → s.number ≡ t.number → s ≡ t
     same e f =
-        let left : s ≡ record { store = t.store; number = s.number } = ap (λ (n : ℕ). let made : Slot = record { store = n; number = s.number } in made) e in
+        let left : s ≡ record { store = t.store; number = s.number } =
+        ap (λ (n : ℕ). let made : Slot = record { store = n; number = s.number } in made) e in
         left ∙ ap (λ (n : ℕ). let made : Slot = record { store = t.store; number = n } in made) f

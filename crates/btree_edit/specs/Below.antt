@@ -1,5 +1,6 @@
 -- What an edit makes of a page, and of what lies below it.
-use Rattle.std.specs.Prelude.{ℕ, zero, suc, ◌≡◌, ◌≢◌, ◌⊎◌, ◌+◌, ◌<◌, ◌≤◌, List, [], ◌∷◌, ◌++◌, length, map, Option, Some, None, Result, Ok, Err}
+use Rattle.std.specs.Prelude.{ℕ, zero, suc, ◌≡◌, ◌≢◌, ◌⊎◌, ◌+◌, ◌<◌, ◌≤◌, List, [], ◌∷◌, ◌++◌, length, map, Option, Some, None}
+use Rattle.std.specs.Prelude.{Result, Ok, Err}
 use Rattle.std.specs.List.{insert}
 use Rattle.nfs3_types.specs.Count.{Rose}
 use Rattle.pair_types.specs.declared.slot.Slot.{Slot}
@@ -26,12 +27,14 @@ use Rattle.btree_edit.specs.Changes.{pair_of, edit_of, given_of, open_of, AreMad
 
 -- ---- what lies below a page
 
-pub record BearsRecords (cells : List Entry) (low : Bound) (high : Option Bound) (quads : List Quad) (below : List Slot) : Type 0 where
+pub record BearsRecords (cells : List Entry) (low : Bound) (high : Option Bound) (quads : List Quad)
+    (below : List Slot) : Type 0 where
   pub records : cells ≡ map quad_cell quads
   pub within : AllIn low high (map quad_bound quads)
   pub nothing : below ≡ []
 
-pub record BearsKids (Sub : Slot → Bound → Option Bound → List Quad → List Slot → Type 0) (cells : List Entry) (low : Bound) (high : Option Bound) (quads : List Quad) (below : List Slot) : Type 0 where
+pub record BearsKids (Sub : Slot → Bound → Option Bound → List Quad → List Slot → Type 0) (cells : List Entry) (low : Bound)
+    (high : Option Bound) (quads : List Quad) (below : List Slot) : Type 0 where
   pub first : Slot
   pub rest : List Child
   pub children : cells ≡ inner_entry [] 0 first ∷ map child_cell rest
@@ -48,7 +51,8 @@ Bears p (suc level) = BearsKids (Subtree p level)
 
 -- the page has these records before the edit, over pages that agree with what is read after it, and
 -- the key and the birth fall into its range; of the records this much is given
-pub record IsMet (Given : List Quad → Type 0) (pair : Bound) (old new : PageState) (content : Content) (under : PageMap) (low : Bound) (high : Option Bound) (quads : List Quad) (below : List Slot) : Type 0 where
+pub record IsMet (Given : List Quad → Type 0) (pair : Bound) (old new : PageState) (content : Content) (under : PageMap)
+    (low : Bound) (high : Option Bound) (quads : List Quad) (below : List Slot) : Type 0 where
   pub rules : IsPage content
   pub agrees : Agrees new.reads under
   pub in_stores : InStores new.stores (over old.writes under)
@@ -57,7 +61,8 @@ pub record IsMet (Given : List Quad → Type 0) (pair : Bound) (old new : PageSt
   pub given : Given quads
 
 -- with these cells, the page has edited records afterwards
-pub record Changed (Edit : List Quad → List Quad → Type 0) (room : Option Room) (stores : ℕ) (p q : PageMap) (level : ℕ) (cells : List Entry)
+pub record Changed (Edit : List Quad → List Quad → Type 0) (room : Option Room) (stores : ℕ) (p q : PageMap) (level : ℕ)
+    (cells : List Entry)
     (low : Bound) (high : Option Bound) (quads : List Quad) (below : List Slot) : Type 0 where
   pub after : List Quad
   pub reached : List Slot
@@ -66,23 +71,29 @@ pub record Changed (Edit : List Quad → List Quad → Type 0) (room : Option Ro
   pub bears : Bears q level cells low high after reached
   pub frame : Frame room p q below reached
 
-abbrev pub ChangesTo : (List Quad → List Quad → Type 0) → (List Quad → Type 0) → Option ℕ → Bound → PageState → PageState → Content → List Entry → Type 0
+abbrev pub ChangesTo : (List Quad → List Quad → Type 0) → (List Quad → Type 0) → Option ℕ → Bound → PageState → PageState
+    → Content → List Entry → Type 0
 ChangesTo Edit Given store pair old new content cells =
-    (under : PageMap) (low : Bound) (high : Option Bound) (quads : List Quad) (below : List Slot) → IsMet Given pair old new content under low high quads below
-    → Changed Edit (room_in store old) new.stores (over old.writes under) (over new.writes under) content.level cells low high quads below
+    (under : PageMap) (low : Bound) (high : Option Bound) (quads : List Quad) (below : List Slot)
+    → IsMet Given pair old new content under low high quads below
+    → Changed Edit (room_in store old) new.stores (over old.writes under) (over new.writes under) content.level cells low high
+    quads below
 
 abbrev pub LacksBelow : (List Quad → Type 0) → Bound → PageState → PageState → Content → Type 0
 LacksBelow Given pair old new content =
-    (under : PageMap) (low : Bound) (high : Option Bound) (quads : List Quad) (below : List Slot) → IsMet Given pair old new content under low high quads below
+    (under : PageMap) (low : Bound) (high : Option Bound) (quads : List Quad) (below : List Slot)
+    → IsMet Given pair old new content under low high quads below
     → Lacks pair quads
 
 abbrev pub IsNotMet : (List Quad → Type 0) → Bound → PageState → PageState → Content → Type 0
 IsNotMet Given pair old new content =
-    (under : PageMap) (low : Bound) (high : Option Bound) (quads : List Quad) (below : List Slot) → IsMet Given pair old new content under low high quads below → ⊥
+    (under : PageMap) (low : Bound) (high : Option Bound) (quads : List Quad) (below : List Slot)
+    → IsMet Given pair old new content under low high quads below → ⊥
 
 -- what was written lay on a lower level
 abbrev pub StaysFrom : ℕ → PageState → PageState → Type 0
-StaysFrom level old new = (s : Slot) (c : Content) → Spells c (latest old.writes new.reads s) → level ≤ c.level → new.writes s ≡ old.writes s
+StaysFrom level old new = (s : Slot) (c : Content) → Spells c (latest old.writes new.reads s) → level ≤ c.level
+    → new.writes s ≡ old.writes s
 
 -- why a page may have more cells: a record came in, or one longer than that to which the way leads
 abbrev pub Grows : Change → PageState → PageState → Content → Type 0
@@ -119,7 +130,8 @@ pub record Becomes (change : Change) (store : ℕ) (old new : PageState) (conten
   pub changes : ChangesTo (edit_of change) (given_of change) (open_of change store) (pair_of change) old new content cells
 
 -- with these cells, two pages have edited records, the second one from this bound on
-pub record Parted (Edit : List Quad → List Quad → Type 0) (room : Option Room) (stores : ℕ) (p q : PageMap) (level : ℕ) (front : List Entry) (bound : Bound) (back : List Entry)
+pub record Parted (Edit : List Quad → List Quad → Type 0) (room : Option Room) (stores : ℕ) (p q : PageMap) (level : ℕ)
+    (front : List Entry) (bound : Bound) (back : List Entry)
     (low : Bound) (high : Option Bound) (quads : List Quad) (below : List Slot) : Type 0 where
   pub after_left : List Quad
   pub after_right : List Quad
@@ -134,13 +146,17 @@ pub record Parted (Edit : List Quad → List Quad → Type 0) (room : Option Roo
   pub apart : (s : Slot) → Among s reached_left → Among s reached_right → ⊥
   pub frame : Frame room p q below (reached_left ++ reached_right)
 
-abbrev pub PartsTo : (List Quad → List Quad → Type 0) → (List Quad → Type 0) → Option ℕ → Bound → PageState → PageState → Content → List Entry → Bound → List Entry → Type 0
+abbrev pub PartsTo : (List Quad → List Quad → Type 0) → (List Quad → Type 0) → Option ℕ → Bound → PageState → PageState → Content
+    → List Entry → Bound → List Entry → Type 0
 PartsTo Edit Given store pair old new content front bound back =
-    (under : PageMap) (low : Bound) (high : Option Bound) (quads : List Quad) (below : List Slot) → IsMet Given pair old new content under low high quads below
-    → Parted Edit (room_in store old) new.stores (over old.writes under) (over new.writes under) content.level front bound back low high quads below
+    (under : PageMap) (low : Bound) (high : Option Bound) (quads : List Quad) (below : List Slot)
+    → IsMet Given pair old new content under low high quads below
+    → Parted Edit (room_in store old) new.stores (over old.writes under) (over new.writes under) content.level front bound back
+    low high quads below
 
 -- the page becomes two, the second one from this bound on
-pub record Divides (change : Change) (store : ℕ) (old new : PageState) (content : Content) (left : List ℕ) (bound : Bound) (right : List ℕ) : Type 0 where
+pub record Divides (change : Change) (store : ℕ) (old new : PageState) (content : Content) (left : List ℕ) (bound : Bound)
+    (right : List ℕ) : Type 0 where
   pub front : List Entry
   pub back : List Entry
   pub left_page : Spells (record { level = content.level; cells = front }) left
@@ -162,15 +178,18 @@ abbrev pub IsEdited : Change → ℕ → PageState → PageState → Content →
 IsEdited change store old new content (Ok Missing) =
     MayMiss change × (new.writes ≡ old.writes) × LacksBelow (given_of change) (pair_of change) old new content
 IsEdited change store old new content (Ok Below) =
-    StaysFrom content.level old new × ChangesTo (edit_of change) (given_of change) (open_of change store) (pair_of change) old new content content.cells
+    StaysFrom content.level old new × ChangesTo (edit_of change) (given_of change) (open_of change store) (pair_of change) old new
+    content content.cells
 IsEdited change store old new content (Ok (Page page)) =
     StaysFrom content.level old new × Becomes change store old new content page
 IsEdited change store old new content (Ok (Two left key birth right)) =
     StaysFrom content.level old new × Divides change store old new content left (bound_at key birth) right
-IsEdited change store old new content (Err fault) = HasCause old new (IsNotMet (given_of change) (pair_of change) old new content) fault
+IsEdited change store old new content (Err fault) = HasCause old new (IsNotMet (given_of change) (pair_of change) old new content)
+    fault
 
 -- what an edit below a page answers and leaves
-pub record EditsBelow (change : Change) (store : ℕ) (old new : PageState) (content : Content) (result : Result Edited PairFault) : Type 0 where
+pub record EditsBelow (change : Change) (store : ℕ) (old new : PageState) (content : Content)
+    (result : Result Edited PairFault) : Type 0 where
   pub goes_on : GoesOn old new
   pub answer : IsEdited change store old new content result
   pub finds : FindsBelow change old new content result
@@ -196,10 +215,12 @@ pub record GaveUp (old new : PageState) (fault : PageFault) : Type 0 where
 
 -- the cells with a child more at this index, in one page or two
 abbrev pub Grafts : Content → ℕ → Bound → Slot → Edited → Type 0
-Grafts content at bound child edited = AreMade content.level (λ cells. cells ≡ insert content.cells at (inner_entry bound.key bound.birth child)) edited
+Grafts content at bound child edited =
+    AreMade content.level (λ cells. cells ≡ insert content.cells at (inner_entry bound.key bound.birth child)) edited
 
 -- the bound does not fall there between the cells, or memory ran out
 abbrev pub IsNoGraft : Content → ℕ → Bound → PairFault → Type 0
-IsNoGraft content at bound Odd = ((n : ℕ) → BeginsAt AtOrAfter bound content.cells n → n ≡ at) → ((n : ℕ) → BeginsAt After bound content.cells n → n ≡ at) → ⊥
+IsNoGraft content at bound Odd = ((n : ℕ) → BeginsAt AtOrAfter bound content.cells n → n ≡ at)
+    → ((n : ℕ) → BeginsAt After bound content.cells n → n ≡ at) → ⊥
 IsNoGraft content at bound HeightFull = ⊥
 IsNoGraft content at bound (PageGave fault) = fault ≡ no_memory

@@ -1,5 +1,6 @@
 -- What each change is of a list of records, and of the cells of a leaf.
-use Rattle.std.specs.Prelude.{ℕ, ◌≡◌, ◌≢◌, ◌<◌, ◌≤◌, ◌^◌, true, List, length, Option, Some, None, Result, MatchResult, All, slice_get, slice_set}
+use Rattle.std.specs.Prelude.{ℕ, ◌≡◌, ◌≢◌, ◌<◌, ◌≤◌, ◌^◌, true, List, length, Option, Some, None, Result, MatchResult, All}
+use Rattle.std.specs.Prelude.{slice_get, slice_set}
 use Rattle.std.specs.List.{remove, insert}
 use Rattle.pair_types.specs.declared.quad.Quad.{Quad}
 use Rattle.pair_types.specs.declared.fault.PairFault.{PairFault}
@@ -131,4 +132,5 @@ refusal_of (Insert q) cells fault = IsRefused (quad_bound q.now) cells fault
 
 abbrev pub EditsLeaf : Change → List Entry → Result Edited PairFault → Type 0
 EditsLeaf change cells result =
-    MatchResult result (λ edited. Answers (cells_edit change cells) (misses_of change cells) edited) (λ fault. refusal_of change cells fault)
+    MatchResult result (λ edited. Answers (cells_edit change cells) (misses_of change cells) edited)
+    (λ fault. refusal_of change cells fault)

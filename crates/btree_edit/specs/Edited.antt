@@ -33,7 +33,8 @@ pub record Frame (room : Option Room) (p q : PageMap) (before after : List Slot)
   pub others : (s : Slot) → (Among s before → ⊥) → (Among s after → ⊥) → q s ≡ p s
 
 -- the tree of these records, which reached these slots, is a tree of edited ones
-pub record EditsTree (Edit : List Quad → List Quad → Type 0) (room : Option Room) (stores : ℕ) (p q : PageMap) (quads : List Quad) (slots : List Slot) : Type 0 where
+pub record EditsTree (Edit : List Quad → List Quad → Type 0) (room : Option Room) (stores : ℕ) (p q : PageMap) (quads : List Quad)
+    (slots : List Slot) : Type 0 where
   pub after : List Quad
   pub reached : List Slot
   pub edit : Edit quads after
@@ -81,7 +82,8 @@ RootStays = RootMoves (λ before after. (after.level ≡ before.level) × (lengt
 -- it keeps its level with at most one cell more, or is one level higher with two cells
 abbrev pub RootGrows : PageState → PageState → Type 0
 RootGrows = RootMoves (λ before after.
-    ((after.level ≡ before.level) × (length after.cells ≤ length before.cells + 1)) ⊎ ((after.level ≡ before.level + 1) × (length after.cells ≡ 2)))
+    ((after.level ≡ before.level) × (length after.cells ≤ length before.cells + 1))
+    ⊎ ((after.level ≡ before.level + 1) × (length after.cells ≡ 2)))
 
 -- over every map that agrees with what is read, under what was written before, the way of the key and
 -- the birth led to this record

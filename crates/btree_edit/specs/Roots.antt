@@ -21,7 +21,8 @@ pub record Raises (old new : PageState) (level : ℕ) (left : List ℕ) (bound :
   pub second : Slot
   pub page : List ℕ
   pub goes_on : GoesOn old new
-  pub spelled : Spells (record { level = level; cells = inner_entry [] 0 first ∷ inner_entry bound.key bound.birth second ∷ [] }) page
+  pub spelled : Spells (record { level = level; cells = inner_entry [] 0 first ∷ inner_entry bound.key bound.birth second ∷ [] })
+      page
   pub root_put : new.writes root ≡ Some page
   pub first_put : first ≢ root → new.writes first ≡ Some left
   pub second_put : second ≢ root → new.writes second ≡ Some right
@@ -66,7 +67,8 @@ MissesIn (Insert q) old new = ⊥
 -- what an edit answers of the tree
 abbrev pub IsPut : Change → ℕ → PageState → PageState → Result Bool PairFault → Type 0
 IsPut change store old new (Ok true) =
-    EditsIn (edit_of change) (given_of change) (open_of change store) old new × (RootStays old new ⊎ (TreeGrows change old new × RootGrows old new))
+    EditsIn (edit_of change) (given_of change) (open_of change store) old new
+    × (RootStays old new ⊎ (TreeGrows change old new × RootGrows old new))
 IsPut change store old new (Ok false) = MissesIn change old new × RootStays old new
 IsPut change store old new (Err fault) = HasPutCause old new (HadNoTree (given_of change) old new) fault
 

@@ -63,7 +63,11 @@ fn one_page(
     requires order { at ≤ past }
     requires within { past ≤ length view.now.cells }
     requires rules { IsPage (record { level = view.now.level; cells = with_one view.now.cells at past (entry_of cell.now) }) }
-    ensures { IfOk result (λ page. Spells (record { level = view.now.level; cells = with_one view.now.cells at past (entry_of cell.now) }) page) }
+    ensures { IfOk result (λ page. Spells (record {
+      level = view.now.level;
+      cells =
+          with_one view.now.cells at past (entry_of cell.now);
+    }) page) }
 {
     let mut builder = PageBuilder::new(alloc, view.level())?;
     builder.add_run(view, 0, at);

@@ -35,7 +35,8 @@ pub fn insert<G: Pages>(alloc: Global, pages: &mut G, q: &Quad, store: u32) -> R
     requires record_fits { IsRecord q.now }
     requires store { store < (G.state pages.old).stores }
     // The list of records has it from now on, if none had its key and birth.
-    ensures inserted { OnOk result (EditsIn (Inserts q.now) (Lacks (quad_bound q.now)) (Some store) (G.state pages.old) (G.state pages.new)) }
+    ensures inserted { OnOk result (EditsIn (Inserts q.now) (Lacks (quad_bound q.now)) (Some store) (G.state pages.old)
+        (G.state pages.new)) }
     ensures goes_on { GoesOn (G.state pages.old) (G.state pages.new) }
     ensures root { OnOk result (RootGrows (G.state pages.old) (G.state pages.new)) }
     // `Odd` where the pages were not those of a tree that lacks the record, `HeightFull` where the

@@ -6,7 +6,8 @@ ghost use Rattle.std.specs.Prelude.{true};
 ghost use Rattle.btree_page.specs.Tree.{quad_bound, quad_cell, IsRecord};
 ghost use Rattle.btree_page.specs.Cells.{entry_of};
 ghost use Rattle.btree_edit.specs.Edits.{bound_at};
-ghost use Rattle.btree_edit.specs.Changes.{ended, Answers, FitsChange, RemovesCell, EndsCell, ReplacesCell, InsertsCell, IsMissing, IsRefused, EditsLeaf};
+ghost use Rattle.btree_edit.specs.Changes.{ended, Answers, FitsChange, RemovesCell, EndsCell, ReplacesCell, InsertsCell};
+ghost use Rattle.btree_edit.specs.Changes.{IsMissing, IsRefused, EditsLeaf};
 
 use crate::build::{put_in, without};
 use crate::change::Change;

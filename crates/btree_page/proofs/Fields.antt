@@ -1,9 +1,12 @@
 -- A field that is read is the field that was written, and what was written is read again.
-use Rattle.std.proofs.Common.{◌≡◌, ℕ, ◌+◌, ◌^◌, ◌<◌, ◌≤◌, ◌%◌, Bool, true, false, cond, ltb, List, [], ◌∷◌, ◌++◌, length, get_or, take, drop, Result, Ok, Err, refl, sym, ap, subst, ◌∙◌, append_assoc, arith, inl, inr}
+use Rattle.std.proofs.Common.{◌≡◌, ℕ, ◌+◌, ◌^◌, ◌<◌, ◌≤◌, ◌%◌, Bool, true, false, cond, ltb, List, [], ◌∷◌, ◌++◌, length, get_or}
+use Rattle.std.proofs.Common.{take, drop, Result, Ok, Err, refl, sym, ap, subst, ◌∙◌, append_assoc, arith, inl, inr}
 use Rattle.std.specs.Int.{Width, w8, w16, w32, w64, byte_len, from_be_bytes, to_be_bytes}
 use Rattle.std.proofs.lemmas.Bool.{cases_lt, ltb-false, le-ltb}
-use Rattle.std.proofs.lemmas.List.{take_at, drop_at, take-append-drop, length-append, length-take, get_or-drop, get_or-take, get_or_past}
-use Rattle.std.proofs.lemmas.Nat.{be_bytes_2, be_bytes_4, be_bytes_8, from_be_bytes-to_be_bytes_2, from_be_bytes-to_be_bytes_4, from_be_bytes-to_be_bytes_8}
+use Rattle.std.proofs.lemmas.List.{take_at, drop_at, take-append-drop, length-append, length-take, get_or-drop, get_or-take}
+use Rattle.std.proofs.lemmas.List.{get_or_past}
+use Rattle.std.proofs.lemmas.Nat.{be_bytes_2, be_bytes_4, be_bytes_8, from_be_bytes-to_be_bytes_2, from_be_bytes-to_be_bytes_4}
+use Rattle.std.proofs.lemmas.Nat.{from_be_bytes-to_be_bytes_8}
 use Rattle.btree_page.specs.declared.format.PageFormat.{PageFormat}
 use Rattle.btree_page.specs.declared.format.PageFormat.TheVariants.{Malformed}
 use Rattle.btree_page.specs.Content.{string}
@@ -23,23 +26,28 @@ IsBytes-take n bytes h i =
     ]
 
 -- the value of a step that did not fail
-pub bind_ok : {A B : Type 0} (r : Result A PageFormat) (f : A → Result B PageFormat) (y : B) → (r >>= f) ≡ Ok y → (x : A) × (r ≡ Ok x) × (f x ≡ Ok y)
+pub bind_ok : {A B : Type 0} (r : Result A PageFormat) (f : A → Result B PageFormat) (y : B) → (r >>= f) ≡ Ok y → (x : A)
+    × (r ≡ Ok x) × (f x ≡ Ok y)
 bind_ok (Ok x) f y e = (x, refl, e)
 bind_ok (Err d) f y e = absurd cc
 
 -- a step that did not fail goes on, and a step that failed ends
-pub bind_by : {A B : Type 0} (r : Result A PageFormat) (f : A → Result B PageFormat) (x : A) (y : Result B PageFormat) → r ≡ Ok x → f x ≡ y → (r >>= f) ≡ y
+pub bind_by : {A B : Type 0} (r : Result A PageFormat) (f : A → Result B PageFormat) (x : A) (y : Result B PageFormat) → r ≡ Ok x
+    → f x ≡ y → (r >>= f) ≡ y
 bind_by r f x y is e = rw is e
 
-pub bind_err : {A B : Type 0} (r : Result A PageFormat) (f : A → Result B PageFormat) (fault : PageFormat) → r ≡ Err fault → (r >>= f) ≡ Err fault
+pub bind_err : {A B : Type 0} (r : Result A PageFormat) (f : A → Result B PageFormat) (fault : PageFormat) → r ≡ Err fault
+    → (r >>= f) ≡ Err fault
 bind_err r f fault is = rw is refl
 
 -- a test that did not fail
-pub guard_ok : {A : Type 0} (b : Bool) (d : PageFormat) (x : Result A PageFormat) (y : A) → cond b (Err d) x ≡ Ok y → (b ≡ false) × (x ≡ Ok y)
+pub guard_ok : {A : Type 0} (b : Bool) (d : PageFormat) (x : Result A PageFormat) (y : A) → cond b (Err d) x ≡ Ok y → (b ≡ false)
+    × (x ≡ Ok y)
 guard_ok true d x y e = absurd cc
 guard_ok false d x y e = (refl, e)
 
-pub test_ok : {A : Type 0} (b : Bool) (d : PageFormat) (x : Result A PageFormat) (y : A) → cond b x (Err d) ≡ Ok y → (b ≡ true) × (x ≡ Ok y)
+pub test_ok : {A : Type 0} (b : Bool) (d : PageFormat) (x : Result A PageFormat) (y : A) → cond b x (Err d) ≡ Ok y → (b ≡ true)
+    × (x ≡ Ok y)
 test_ok true d x y e = (refl, e)
 test_ok false d x y e = absurd cc
 
@@ -73,10 +81,12 @@ past-then a x y rest =
 
 -- ---- parts
 
-pub part_takes : (n : ℕ) (a : Ahead) (x : List ℕ) (b : Ahead) → IsBytes a.bytes → part_at n a ≡ Ok (x, b) → Takes a x b × (length x ≡ n)
+pub part_takes : (n : ℕ) (a : Ahead) (x : List ℕ) (b : Ahead) → IsBytes a.bytes → part_at n a ≡ Ok (x, b) → Takes a x b
+    × (length x ≡ n)
 unfolding part_at
 part_takes n a x b fits e =
-    let g = guard_ok (ltb (length a.bytes) n) (Malformed a.place) (Ok (take n a.bytes, record { place = a.place + n; bytes = drop n a.bytes })) (x, b) e in
+    let g = guard_ok (ltb (length a.bytes) n) (Malformed a.place)
+    (Ok (take n a.bytes, record { place = a.place + n; bytes = drop n a.bytes })) (x, b) e in
     let long : n ≤ length a.bytes = ltb-false _ _ g.0 in
     let len : length (take n a.bytes) ≡ n = omega (arith, length-take n a.bytes) in
     let after : Ahead = record { place = a.place + n; bytes = drop n a.bytes } in
@@ -147,10 +157,13 @@ unfolding number_at
 number_takes w limit wide a n b fits e =
     let s = bind_ok (part_at (byte_len w) a) (λ part. Ok (from_be_bytes w part.0, part.1)) (n, b) e in
     let t = part_takes (byte_len w) a s.0.0 s.0.1 fits s.1 in
-    let bytes_fit : IsBytes s.0.0 = λ i. subst (λ (xs : List ℕ). get_or xs i 0 < 256) (sym (front_of a s.0.0 s.0.1 t.0)) (IsBytes-take (length s.0.0) a.bytes fits i) in
+    let bytes_fit : IsBytes s.0.0 = λ i. subst (λ (xs : List ℕ). get_or xs i 0 < 256) (sym (front_of a s.0.0 s.0.1 t.0))
+    (IsBytes-take (length s.0.0) a.bytes fits i) in
     let spelled : to_be_bytes w (from_be_bytes w s.0.0) ≡ s.0.0 = wide.back s.0.0 t.1 bytes_fit in
-    let whole : Takes a (to_be_bytes w (from_be_bytes w s.0.0)) s.0.1 = subst (λ (xs : List ℕ). Takes a xs s.0.1) (sym spelled) t.0 in
-    subst (λ (p : ℕ × Ahead). Takes a (to_be_bytes w p.0) p.1 × (p.0 < limit)) (ok_is (from_be_bytes w s.0.0, s.0.1) (n, b) s.2) (whole, wide.below s.0.0 bytes_fit)
+    let whole : Takes a (to_be_bytes w (from_be_bytes w s.0.0)) s.0.1 = subst (λ (xs : List ℕ). Takes a xs s.0.1) (sym spelled)
+    t.0 in
+    subst (λ (p : ℕ × Ahead). Takes a (to_be_bytes w p.0) p.1 × (p.0 < limit)) (ok_is (from_be_bytes w s.0.0, s.0.1) (n, b) s.2)
+    (whole, wide.below s.0.0 bytes_fit)
   where
     front_of : (a : Ahead) (x : List ℕ) (b : Ahead) → Takes a x b → x ≡ take (length x) a.bytes
     front_of a x b t = rw t.parts (sym (take_at x b.bytes (length x) refl))
@@ -160,7 +173,8 @@ pub number_again : (w : Width) (limit : ℕ) (wide : IsWide w limit) (n : ℕ) (
 unfolding number_at
 number_again w limit wide n a rest lt e =
     let part : part_at (byte_len w) a ≡ Ok (to_be_bytes w n, past a (to_be_bytes w n) rest) =
-    subst (λ (k : ℕ). part_at k a ≡ Ok (to_be_bytes w n, past a (to_be_bytes w n) rest)) (wide.len n) (part_again (to_be_bytes w n) a rest e) in
+    subst (λ (k : ℕ). part_at k a ≡ Ok (to_be_bytes w n, past a (to_be_bytes w n) rest)) (wide.len n)
+    (part_again (to_be_bytes w n) a rest e) in
     rw part (ap (λ (m : ℕ). Ok (m, past a (to_be_bytes w n) rest)) (wide.again n lt))
 
 -- ---- strings

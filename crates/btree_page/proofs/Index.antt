@@ -1,5 +1,7 @@
 -- The table of the places of a page's cells, as a loop makes it.
-use Rattle.std.proofs.Common.{◌≡◌, ◌≢◌, ℕ, zero, suc, ◌+◌, ◌*◌, ◌<◌, ◌≤◌, Bool, true, false, cond, ltb, List, [], ◌∷◌, ◌++◌, length, take, set, append_assoc, Option, Some, None, Result, Ok, Err, refl, sym, ap, subst, ◌∙◌, arith, below_more, get_or-set_same, get_or-set_other, add-one}
+use Rattle.std.proofs.Common.{◌≡◌, ◌≢◌, ℕ, zero, suc, ◌+◌, ◌*◌, ◌<◌, ◌≤◌, Bool, true, false, cond, ltb, List, [], ◌∷◌, ◌++◌}
+use Rattle.std.proofs.Common.{length, take, set, append_assoc, Option, Some, None, Result, Ok, Err, refl, sym, ap, subst, ◌∙◌}
+use Rattle.std.proofs.Common.{arith, below_more, get_or-set_same, get_or-set_other, add-one}
 use Rattle.std.specs.Prelude.{slice_get, slice_index}
 use Rattle.std.specs.List.{flat_map}
 use Rattle.std.specs.Int.{Width, w16, w32, w64, byte_len, from_be_bytes, to_be_bytes}
@@ -9,8 +11,10 @@ use Rattle.pair_types.specs.declared.slot.Slot.{Slot}
 use Rattle.cursor.specs.Position.{Position}
 use Rattle.btree_page.specs.declared.format.PageFormat.{PageFormat}
 use Rattle.btree_page.specs.declared.format.PageFormat.TheVariants.{Malformed}
-use Rattle.btree_page.specs.Content.{Bound, Body, Carries, Leads, Entry, bound_of, last_bound, string, body_spelling, entry_spelling}
-use Rattle.btree_page.specs.Reading.{◌>>=◌, Ahead, ahead, fails, part_at, number_at, string_at, body_at, rest_at, entry_at, plain_at, cells_at, cell_in, value_of, key_limit, may_follow}
+use Rattle.btree_page.specs.Content.{Bound, Body, Carries, Leads, Entry, bound_of, last_bound, string, body_spelling}
+use Rattle.btree_page.specs.Content.{entry_spelling}
+use Rattle.btree_page.specs.Reading.{◌>>=◌, Ahead, ahead, fails, part_at, number_at, string_at, body_at, rest_at, entry_at}
+use Rattle.btree_page.specs.Reading.{plain_at, cells_at, cell_in, value_of, key_limit, may_follow}
 use Rattle.btree_page.specs.View.{StandsAt, IsIndex, IsTable}
 use Rattle.btree_page.proofs.Fields.{bind_ok, bind_by, guard_ok, test_ok, ok_is}
 use Rattle.btree_page.proofs.Cells.{key_limit-le, cells_more, cells_end, last_bound-push}
@@ -41,12 +45,18 @@ string_moves limit a x e =
     omega (arith, number_moves w16 a s.0 s.1, p.0, p.1)
 
 carries_size : (death : ℕ) (value : List ℕ) → length (body_spelling (Carries death value)) ≡ 10 + length value
-carries_size death value = omega (arith, length-append (to_be_bytes w64 death) (string value), length-append (to_be_bytes w16 (length value)) value)
+carries_size death value = omega (
+  arith,
+  length-append (to_be_bytes w64 death) (string value),
+  length-append
+      (to_be_bytes w16 (length value)) value,
+)
 
 leads_size : (child : Slot) → length (body_spelling (Leads child)) ≡ 12
 leads_size child = omega (arith, length-append (to_be_bytes w32 child.store) (to_be_bytes w64 child.number))
 
-body_moves : (is_leaf : Bool) (a : Ahead) (x : Body × Ahead) → body_at is_leaf a ≡ Ok x → (x.1.place ≡ a.place + length (body_spelling x.0)) × (10 ≤ length (body_spelling x.0))
+body_moves : (is_leaf : Bool) (a : Ahead) (x : Body × Ahead) → body_at is_leaf a ≡ Ok x
+    → (x.1.place ≡ a.place + length (body_spelling x.0)) × (10 ≤ length (body_spelling x.0))
 unfolding body_at
 body_moves true a x e =
     let d = bind_ok (number_at w64 a) (λ death. string_at 1200 death.1 >>= λ value. Ok (Carries death.0 value.0, value.1)) x e in
@@ -57,7 +67,8 @@ body_moves true a x e =
     let long = carries_size d.0.0 v.0.0 in
     (omega (arith, number_moves w64 a d.0 d.1, string_moves 1200 d.0.1 v.0 v.1, same, size, long), omega (arith, size, long))
 body_moves false a x e =
-    let s = bind_ok (number_at w32 a) (λ store. number_at w64 store.1 >>= λ number. Ok (Leads (record { store = store.0; number = number.0 }), number.1)) x e in
+    let s = bind_ok (number_at w32 a) (λ store. number_at w64 store.1 >>= λ number. Ok
+    (Leads (record { store = store.0; number = number.0 }), number.1)) x e in
     let n = bind_ok (number_at w64 s.0.1) (λ number. Ok (Leads (record { store = s.0.0; number = number.0 }), number.1)) x s.2 in
     let is = ok_is _ x n.2 in
     let same = ap (λ (p : Body × Ahead). p.1.place) is in
@@ -73,11 +84,14 @@ record Read (is_leaf : Bool) (before : Option Bound) (a : Ahead) (x : Entry × A
   birth_read : number_at w64 key.1 ≡ Ok birth
   rest_read : rest_at is_leaf key.0 birth.0 birth.1 ≡ Ok x
 
-read_of : (is_leaf : Bool) (before : Option Bound) (a : Ahead) (x : Entry × Ahead) → entry_at is_leaf before a ≡ Ok x → Read is_leaf before a x
+read_of : (is_leaf : Bool) (before : Option Bound) (a : Ahead) (x : Entry × Ahead) → entry_at is_leaf before a ≡ Ok x
+    → Read is_leaf before a x
 unfolding entry_at
 read_of is_leaf before a x e =
-    let k = bind_ok (string_at (key_limit is_leaf before) a) (λ key. number_at w64 key.1 >>= λ birth. cond (may_follow is_leaf before key.0 birth.0) (rest_at is_leaf key.0 birth.0 birth.1) (fails key.1)) x e in
-    let n = bind_ok (number_at w64 k.0.1) (λ birth. cond (may_follow is_leaf before k.0.0 birth.0) (rest_at is_leaf k.0.0 birth.0 birth.1) (fails k.0.1)) x k.2 in
+    let k = bind_ok (string_at (key_limit is_leaf before) a) (λ key. number_at w64 key.1 >>= λ birth. cond
+    (may_follow is_leaf before key.0 birth.0) (rest_at is_leaf key.0 birth.0 birth.1) (fails key.1)) x e in
+    let n = bind_ok (number_at w64 k.0.1) (λ birth. cond (may_follow is_leaf before k.0.0 birth.0)
+    (rest_at is_leaf k.0.0 birth.0 birth.1) (fails k.0.1)) x k.2 in
     let t = test_ok (may_follow is_leaf before k.0.0 n.0.0) (Malformed k.0.1.place) (rest_at is_leaf k.0.0 n.0.0 n.0.1) x n.2 in
     record { key = k.0; birth = n.0; key_read = k.1; birth_read = n.1; rest_read = t.1 }
 
@@ -86,14 +100,20 @@ entry_moves : (is_leaf : Bool) (before : Option Bound) (a : Ahead) (x : Entry ×
 unfolding rest_at
 entry_moves is_leaf before a x e =
     let r = read_of is_leaf before a x e in
-    let y = bind_ok (body_at is_leaf r.birth.1) (λ body. let made : Entry = record { key = r.key.0; birth = r.birth.0; body = body.0 } in Ok (made, body.1)) x r.rest_read in
+    let y = bind_ok (body_at is_leaf r.birth.1) (λ body. let made : Entry = record {
+      key = r.key.0;
+      birth = r.birth.0;
+      body =
+          body.0;
+    } in Ok (made, body.1)) x r.rest_read in
     let is = ok_is _ x y.2 in
     let same = ap (λ (p : Entry × Ahead). p.1.place) is in
     let size = ap (λ (p : Entry × Ahead). length (entry_spelling p.0)) is in
     let body = body_moves is_leaf r.birth.1 y.0 y.1 in
     let key = string_moves (key_limit is_leaf before) a r.key r.key_read in
     let birth = number_moves w64 r.key.1 r.birth r.birth_read in
-    let long : length (entry_spelling (record { key = r.key.0; birth = r.birth.0; body = y.0.0 })) ≡ 10 + length r.key.0 + length (body_spelling y.0.0) = omega (
+    let long : length (entry_spelling (record { key = r.key.0; birth = r.birth.0; body = y.0.0 })) ≡ 10 + length r.key.0 + length
+    (body_spelling y.0.0) = omega (
       arith,
       length-append (string r.key.0) (to_be_bytes w64 r.birth.0 ++ body_spelling y.0.0),
       length-append (to_be_bytes w64 r.birth.0) (body_spelling y.0.0),
@@ -111,7 +131,8 @@ string_wider limit a x le e =
     bind_by (number_at w16 a) (λ n. cond (ltb 264 n.0) (fails a) (part_at n.0 n.1)) s.0 (Ok x) s.1 (rw within g.1)
 
 -- a cell that was read in its order reads by itself too
-plain_too : (is_leaf : Bool) (before : Option Bound) (a : Ahead) (x : Entry × Ahead) → entry_at is_leaf before a ≡ Ok x → plain_at is_leaf a ≡ Ok x
+plain_too : (is_leaf : Bool) (before : Option Bound) (a : Ahead) (x : Entry × Ahead) → entry_at is_leaf before a ≡ Ok x
+    → plain_at is_leaf a ≡ Ok x
 unfolding plain_at
 plain_too is_leaf before a x e =
     let r = read_of is_leaf before a x e in
@@ -126,8 +147,10 @@ cells_count : (is_leaf : Bool) (n : ℕ) (before : Option Bound) (a : Ahead) (ce
 unfolding cells_at
 cells_count is_leaf zero before a cells b e = sym (ap (λ (p : List Entry × Ahead). length p.0) (ok_is ([], a) (cells, b) e))
 cells_count is_leaf (suc n) before a cells b e =
-    let f = bind_ok (entry_at is_leaf before a) (λ first. cells_at is_leaf n (Some (bound_of first.0)) first.1 >>= λ others. Ok (first.0 ∷ others.0, others.1)) (cells, b) e in
-    let o = bind_ok (cells_at is_leaf n (Some (bound_of f.0.0)) f.0.1) (λ others. Ok (f.0.0 ∷ others.0, others.1)) (cells, b) f.2 in
+    let f = bind_ok (entry_at is_leaf before a) (λ first. cells_at is_leaf n (Some (bound_of first.0)) first.1 >>= λ others. Ok
+    (first.0 ∷ others.0, others.1)) (cells, b) e in
+    let o = bind_ok (cells_at is_leaf n (Some (bound_of f.0.0)) f.0.1) (λ others. Ok (f.0.0 ∷ others.0, others.1)) (cells, b) f.2
+    in
     let same = ap (λ (p : List Entry × Ahead). length p.0) (ok_is (f.0.0 ∷ o.0.0, o.0.1) (cells, b) o.2) in
     sym same ∙ ap suc (cells_count is_leaf n (Some (bound_of f.0.0)) f.0.1 o.0.0 o.0.1 o.1)
 
@@ -146,10 +169,12 @@ take-front [] ys (suc k) le = absurd (omega arith)
 take-front (x ∷ xs) ys zero le = refl
 take-front (x ∷ xs) ys (suc k) le = ap (λ (es : List Entry). x ∷ es) (take-front xs ys k (omega arith))
 
-pub flat_map-push : (cells : List Entry) (e : Entry) → flat_map entry_spelling (cells ++ e ∷ []) ≡ flat_map entry_spelling cells ++ entry_spelling e
+pub flat_map-push : (cells : List Entry) (e : Entry) → flat_map entry_spelling (cells ++ e ∷ []) ≡ flat_map entry_spelling cells
+    ++ entry_spelling e
 flat_map-push [] e = append-nil (entry_spelling e)
 flat_map-push (c ∷ cells) e =
-    ap (λ (xs : List ℕ). entry_spelling c ++ xs) (flat_map-push cells e) ∙ sym (append_assoc (entry_spelling c) (flat_map entry_spelling cells) (entry_spelling e))
+    ap (λ (xs : List ℕ). entry_spelling c ++ xs) (flat_map-push cells e)
+    ∙ sym (append_assoc (entry_spelling c) (flat_map entry_spelling cells) (entry_spelling e))
 
 pub cells_count_of : (is_leaf : Bool) (n : ℕ) (text : List ℕ) (from now : Ahead) (table : List ℕ) (cells : List Entry)
     → IsIndex is_leaf n text from now table cells → length cells ≡ n
@@ -165,7 +190,8 @@ pub record Indexed (is_leaf : Bool) (i : ℕ) (from now : Position) (before : Op
   pub full : length table ≡ 410
   pub text : now.text ≡ from.text
 
-pub indexed_none : (is_leaf : Bool) (from : Position) (table : List ℕ) → length table ≡ 410 → Indexed is_leaf 0 from from None table
+pub indexed_none : (is_leaf : Bool) (from : Position) (table : List ℕ) → length table ≡ 410
+    → Indexed is_leaf 0 from from None table
 unfolding cells_at
 indexed_none is_leaf from table full = record {
   cells = [];
@@ -199,7 +225,8 @@ indexed_more is_leaf i from now next before table e h read text lt place at with
             (λ k less.
             let other : k ≢ i = omega arith in
             let old : slice_index (set table i place) k ≡ slice_index table k = get_or-set_other table i k place 0 other in
-            let same : slice_get h.cells k ≡ slice_get (h.cells ++ e ∷ []) k = sym (slice_get-front h.cells (e ∷ []) k (omega (arith, count))) in
+            let same : slice_get h.cells k ≡ slice_get (h.cells ++ e ∷ []) k =
+            sym (slice_get-front h.cells (e ∷ []) k (omega (arith, count))) in
             let before_it : StandsAt is_leaf from.text (slice_index (set table i place) k) (slice_get h.cells k) =
             subst (λ (n : ℕ). StandsAt is_leaf from.text n (slice_get h.cells k)) (sym old) (h.index.places k less) in
             subst (λ (o : Option Entry). StandsAt is_leaf from.text (slice_index (set table i place) k) o) same before_it)
@@ -214,18 +241,28 @@ indexed_more is_leaf i from now next before table e h read text lt place at with
             (λ k less.
             let other : k ≢ i = omega arith in
             get_or-set_other table i k place 0 other
-            ∙ (h.index.tiles k less ∙ ap (λ (es : List Entry). from.place + length (flat_map entry_spelling es)) (sym (take-front h.cells (e ∷ []) k (omega (arith, count))))))
+            ∙ (h.index.tiles k less ∙ ap (λ (es : List Entry). from.place + length (flat_map entry_spelling es))
+            (sym (take-front h.cells (e ∷ []) k (omega (arith, count))))))
             (get_or-set_same table i place 0 inside
-            ∙ (at ∙ (h.reached ∙ ap (λ (es : List Entry). from.place + length (flat_map entry_spelling es)) (sym (take-front h.cells (e ∷ []) i (omega (arith, count)) ∙ take_all i h.cells (omega (arith, count)))))));
+            ∙ (at ∙ (h.reached ∙ ap (λ (es : List Entry). from.place + length (flat_map entry_spelling es))
+            (sym (take-front h.cells (e ∷ []) i (omega (arith, count)) ∙ take_all i h.cells (omega (arith, count)))))));
       };
       last = is ∙ sym (last_bound-push None h.cells e);
       room = omega (arith, h.room, moves.0, moves.1);
-      reached = omega (arith, h.reached, moves.0, ap (λ (xs : List ℕ). length xs) (flat_map-push h.cells e), length-append (flat_map entry_spelling h.cells) (entry_spelling e));
+      reached = omega (
+        arith,
+        h.reached,
+        moves.0,
+        ap (λ (xs : List ℕ). length xs) (flat_map-push h.cells e),
+        length-append
+            (flat_map entry_spelling h.cells) (entry_spelling e),
+      );
       full = length-set table i place ∙ h.full;
       text = text ∙ h.text;
     }
 
-pub index_ends : (is_leaf : Bool) (i count : ℕ) (from now : Position) (before : Option Bound) (table : List ℕ) (fault : PageFormat)
+pub index_ends : (is_leaf : Bool) (i count : ℕ) (from now : Position) (before : Option Bound) (table : List ℕ)
+    (fault : PageFormat)
     → Indexed is_leaf i from now before table → entry_at is_leaf before (ahead now) ≡ Err fault → i < count
     → cells_at is_leaf count None (ahead from) ≡ Err fault
 index_ends is_leaf i count from now before table fault h read lt =

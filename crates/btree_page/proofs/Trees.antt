@@ -1,10 +1,12 @@
 -- The laws of trees: what keeps a tree, that it reaches no absent slot, and that it is unique.
-use Rattle.std.proofs.Common.{◌≡◌, ℕ, zero, suc, ◌⊎◌, inl, inr, ⊎_elim, List, [], ◌∷◌, ◌++◌, map, Option, Some, None, IsSome, refl, sym, ap, subst, ◌∙◌}
+use Rattle.std.proofs.Common.{◌≡◌, ℕ, zero, suc, ◌⊎◌, inl, inr, ⊎_elim, List, [], ◌∷◌, ◌++◌, map, Option, Some, None, IsSome}
+use Rattle.std.proofs.Common.{refl, sym, ap, subst, ◌∙◌}
 use Rattle.pair_types.specs.declared.slot.Slot.{Slot}
 use Rattle.pair_types.specs.declared.quad.Quad.{Quad}
 use Rattle.pair_types.specs.PageMaps.{PageMap}
 use Rattle.btree_page.specs.Content.{Bound, Carries, Leads, Body, Entry, Content, Spells, inner_entry}
-use Rattle.btree_page.specs.Tree.{Holds, Among, quad_cell, Child, child_cell, Kids, Subtree, root, least, KeepsTrees, ReachesPages, HasOneList, HasOneContent}
+use Rattle.btree_page.specs.Tree.{Holds, Among, quad_cell, Child, child_cell, Kids, Subtree, root, least, KeepsTrees}
+use Rattle.btree_page.specs.Tree.{ReachesPages, HasOneList, HasOneContent}
 use Rattle.btree_page.proofs.Whole.{one_content}
 
 pub has_one_content : HasOneContent
@@ -30,8 +32,10 @@ among_either s (t ∷ ss) ts h =
 holds_there : (p q : PageMap) (slot : Slot) (content : Content) → Holds p slot content → q slot ≡ p slot → Holds q slot content
 holds_there p q slot content h same = record { bytes = h.bytes; held = same ∙ h.held; spelled = h.spelled }
 
-kids_keep : (p q : PageMap) (level : ℕ) (keep : (slot : Slot) (low : Bound) (high : Option Bound) (quads : List Quad) (slots : List Slot)
-    → Subtree p level slot low high quads slots → ((s : Slot) → Among s slots → q s ≡ p s) → Subtree q level slot low high quads slots)
+kids_keep : (p q : PageMap) (level : ℕ) (keep : (slot : Slot) (low : Bound) (high : Option Bound) (quads : List Quad)
+    (slots : List Slot)
+    → Subtree p level slot low high quads slots → ((s : Slot) → Among s slots → q s ≡ p s)
+    → Subtree q level slot low high quads slots)
     (rest : List Child) (first : Slot) (low : Bound) (high : Option Bound) (quads : List Quad) (slots : List Slot)
     → Kids (Subtree p level) first low rest high quads slots → ((s : Slot) → Among s slots → q s ≡ p s)
     → Kids (Subtree q level) first low rest high quads slots
@@ -44,8 +48,10 @@ kids_keep p q level keep (next ∷ rest) first low high quads slots h same =
       quads_right = h.quads_right;
       slots_left = h.slots_left;
       slots_right = h.slots_right;
-      left = keep first low (Some next.bound) h.quads_left h.slots_left h.left (λ s here. there s (among_left s h.slots_left h.slots_right here));
-      right = kids_keep p q level keep rest next.slot next.bound high h.quads_right h.slots_right h.right (λ s here. there s (among_right s h.slots_left h.slots_right here));
+      left = keep first low (Some next.bound) h.quads_left h.slots_left h.left
+          (λ s here. there s (among_left s h.slots_left h.slots_right here));
+      right = kids_keep p q level keep rest next.slot next.bound high h.quads_right h.slots_right h.right
+          (λ s here. there s (among_right s h.slots_left h.slots_right here));
       all_quads = h.all_quads;
       all_slots = h.all_slots;
       apart = h.apart;
@@ -53,17 +59,20 @@ kids_keep p q level keep (next ∷ rest) first low high quads slots h same =
 
 pub keeps_trees : KeepsTrees
 keeps_trees p q zero slot low high quads slots h same =
-    let there : (s : Slot) → Among s (slot ∷ []) → q s ≡ p s = subst (λ (ss : List Slot). (s : Slot) → Among s ss → q s ≡ p s) h.reached same in
+    let there : (s : Slot) → Among s (slot ∷ []) → q s ≡ p s = subst (λ (ss : List Slot). (s : Slot) → Among s ss → q s ≡ p s)
+    h.reached same in
     record { page = holds_there p q slot _ h.page (there slot (inl refl)); within = h.within; reached = h.reached }
 keeps_trees p q (suc level) slot low high quads slots h same =
-    let there : (s : Slot) → Among s (slot ∷ h.below) → q s ≡ p s = subst (λ (ss : List Slot). (s : Slot) → Among s ss → q s ≡ p s) h.reached same in
+    let there : (s : Slot) → Among s (slot ∷ h.below) → q s ≡ p s = subst (λ (ss : List Slot). (s : Slot) → Among s ss
+    → q s ≡ p s) h.reached same in
     record {
       first = h.first;
       rest = h.rest;
       below = h.below;
       page = holds_there p q slot _ h.page (there slot (inl refl));
       within = h.within;
-      kids = kids_keep p q level (keeps_trees p q level) h.rest h.first low high quads h.below h.kids (λ s here. there s (inr here));
+      kids = kids_keep p q level (keeps_trees p q level) h.rest h.first low high quads h.below h.kids
+          (λ s here. there s (inr here));
       reached = h.reached;
       apart = h.apart;
     }
@@ -73,7 +82,8 @@ keeps_trees p q (suc level) slot low high quads slots h same =
 some_page : (p : PageMap) (slot : Slot) (content : Content) (s : Slot) → Holds p slot content → s ≡ slot → IsSome (p s)
 some_page p slot content s h e = rw (e, h.held) refl
 
-kids_present : (p : PageMap) (level : ℕ) (present : (slot : Slot) (low : Bound) (high : Option Bound) (quads : List Quad) (slots : List Slot)
+kids_present : (p : PageMap) (level : ℕ) (present : (slot : Slot) (low : Bound) (high : Option Bound) (quads : List Quad)
+    (slots : List Slot)
     → Subtree p level slot low high quads slots → (s : Slot) → Among s slots → IsSome (p s))
     (rest : List Child) (first : Slot) (low : Bound) (high : Option Bound) (quads : List Quad) (slots : List Slot)
     → Kids (Subtree p level) first low rest high quads slots → (s : Slot) → Among s slots → IsSome (p s)
@@ -152,7 +162,8 @@ children_of (e ∷ es) = record { first = slot_of e; rest = map child_of es }
 
 back_all : (c : Children) → children_of (cells_of_children c) ≡ c
 unfolding children_of cells_of_children slot_of
-back_all c = ap (λ (rest : List Child). let made : Children = record { first = c.first; rest = rest } in made) (back_children c.rest)
+back_all c = ap (λ (rest : List Child). let made : Children = record { first = c.first; rest = rest } in made)
+    (back_children c.rest)
 
 same_children : (c d : Children) → cells_of_children c ≡ cells_of_children d → c ≡ d
 same_children c d e = sym (back_all c) ∙ (ap (λ (cells : List Entry). children_of cells) e ∙ back_all d)
@@ -167,28 +178,34 @@ both_lists a a' b b' p q = ap (λ (x : List Quad). x ++ b) p ∙ ap (λ (x : Lis
 both_slots : (a a' b b' : List Slot) → a ≡ a' → b ≡ b' → a ++ b ≡ a' ++ b'
 both_slots a a' b b' p q = ap (λ (x : List Slot). x ++ b) p ∙ ap (λ (x : List Slot). a' ++ x) q
 
-kids_same : (p : PageMap) (level : ℕ) (same : (slot : Slot) (low : Bound) (high : Option Bound) (quads quads' : List Quad) (slots slots' : List Slot)
+kids_same : (p : PageMap) (level : ℕ) (same : (slot : Slot) (low : Bound) (high : Option Bound) (quads quads' : List Quad)
+    (slots slots' : List Slot)
     → Subtree p level slot low high quads slots → Subtree p level slot low high quads' slots' → Same quads quads' slots slots')
     (rest : List Child) (first : Slot) (low : Bound) (high : Option Bound) (quads quads' : List Quad) (slots slots' : List Slot)
-    → Kids (Subtree p level) first low rest high quads slots → Kids (Subtree p level) first low rest high quads' slots' → Same quads quads' slots slots'
+    → Kids (Subtree p level) first low rest high quads slots → Kids (Subtree p level) first low rest high quads' slots'
+    → Same quads quads' slots slots'
 kids_same p level same [] first low high quads quads' slots slots' h k = same first low high quads quads' slots slots' h k
 kids_same p level same (next ∷ rest) first low high quads quads' slots slots' h k =
     let l = same first low (Some next.bound) h.quads_left k.quads_left h.slots_left k.slots_left h.left k.left in
-    let r = kids_same p level same rest next.slot next.bound high h.quads_right k.quads_right h.slots_right k.slots_right h.right k.right in (
+    let r = kids_same p level same rest next.slot next.bound high h.quads_right k.quads_right h.slots_right k.slots_right h.right
+    k.right in (
       h.all_quads ∙ (both_lists h.quads_left k.quads_left h.quads_right k.quads_right l.0 r.0 ∙ sym k.all_quads),
       h.all_slots ∙ (both_slots h.slots_left k.slots_left h.slots_right k.slots_right l.1 r.1 ∙ sym k.all_slots),
     )
 
-subtrees_same : (p : PageMap) (level : ℕ) (slot : Slot) (low : Bound) (high : Option Bound) (quads quads' : List Quad) (slots slots' : List Slot)
+subtrees_same : (p : PageMap) (level : ℕ) (slot : Slot) (low : Bound) (high : Option Bound) (quads quads' : List Quad)
+    (slots slots' : List Slot)
     → Subtree p level slot low high quads slots → Subtree p level slot low high quads' slots' → Same quads quads' slots slots'
 unfolding cells_of_children
 subtrees_same p zero slot low high quads quads' slots slots' h k =
-    let cells : map quad_cell quads ≡ map quad_cell quads' = ap (λ (c : Content). c.cells) (same_content p slot _ _ h.page k.page) in
+    let cells : map quad_cell quads ≡ map quad_cell quads' = ap (λ (c : Content). c.cells) (same_content p slot _ _ h.page k.page)
+    in
     (same_quads quads quads' cells, h.reached ∙ sym k.reached)
 subtrees_same p (suc level) slot low high quads quads' slots slots' h k =
     let c : Children = record { first = h.first; rest = h.rest } in
     let d : Children = record { first = k.first; rest = k.rest } in
-    let cells : cells_of_children c ≡ cells_of_children d = ap (λ (x : Content). x.cells) (same_content p slot _ _ h.page k.page) in
+    let cells : cells_of_children c ≡ cells_of_children d = ap (λ (x : Content). x.cells) (same_content p slot _ _ h.page k.page)
+    in
     let is : d ≡ c = sym (same_children c d cells) in
     let kids : Kids (Subtree p level) h.first low h.rest high quads' k.below =
     subst (λ (x : Children). Kids (Subtree p level) x.first low x.rest high quads' k.below) is k.kids in

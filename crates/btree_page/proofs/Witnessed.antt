@@ -1,5 +1,6 @@
 -- The smallest trees are trees.
-use Rattle.std.proofs.Common.{◌≡◌, ◌≢◌, ℕ, zero, suc, ◌<◌, ⊎_elim, List, [], ◌∷◌, ◌++◌, Option, Some, None, IsSome, refl, sym, ap, subst, ◌∙◌, arith}
+use Rattle.std.proofs.Common.{◌≡◌, ◌≢◌, ℕ, zero, suc, ◌<◌, ⊎_elim, List, [], ◌∷◌, ◌++◌, Option, Some, None, IsSome, refl, sym, ap}
+use Rattle.std.proofs.Common.{subst, ◌∙◌, arith}
 use Rattle.std.proofs.lemmas.List.{length-append}
 use Rattle.pair_types.specs.declared.slot.Slot.{Slot}
 use Rattle.btree_page.specs.Content.{Bound, IsBelow, Spells, spelling, head, entry_spelling, inner_entry}
@@ -31,7 +32,10 @@ one_record byte = record {
 }
 
 no_records : Spells (record { level = 0; cells = [] }) (leaf_of [])
-no_records = record { rules = record { level = omega arith; cells = tt; least = λ up. absurd (omega arith); size = omega arith }; text = refl }
+no_records = record {
+  rules = record { level = omega arith; cells = tt; least = λ up. absurd (omega arith); size = omega arith };
+  text = refl;
+}
 
 abbrev second : Child
 second = record { bound = record { key = 98 ∷ []; birth = 0 }; slot = slot 2 }
@@ -112,7 +116,8 @@ trees = record {
         apart = apart 1 2 (λ is. absurd cc);
       };
       reached = refl;
-      apart = λ there. ⊎_elim (λ e. number_apart 0 1 (λ is. absurd cc) e) (λ more. ⊎_elim (λ e. number_apart 0 2 (λ is. absurd cc) e) (λ no. no) more) there;
+      apart = λ there. ⊎_elim (λ e. number_apart 0 1 (λ is. absurd cc) e)
+          (λ more. ⊎_elim (λ e. number_apart 0 2 (λ is. absurd cc) e) (λ no. no) more) there;
     };
   };
 }

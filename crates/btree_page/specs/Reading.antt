@@ -1,5 +1,6 @@
 -- Reading a page from left to right, with the place of the first field that does not read.
-use Rattle.std.specs.Prelude.{ℕ, zero, suc, ◌≡◌, ◌+◌, Bool, true, false, ◌||◌, List, [], ◌∷◌, length, take, drop, Option, Some, None, Result, Ok, Err, nat_lt, nat_le, ◌==◌, if◌then◌else◌}
+use Rattle.std.specs.Prelude.{ℕ, zero, suc, ◌≡◌, ◌+◌, Bool, true, false, ◌||◌, List, [], ◌∷◌, length, take, drop, Option, Some}
+use Rattle.std.specs.Prelude.{None, Result, Ok, Err, nat_lt, nat_le, ◌==◌, if◌then◌else◌}
 use Rattle.std.specs.Int.{Width, w8, w16, w32, w64, byte_len, from_be_bytes}
 use Rattle.std.specs.Ordering.{is_lt}
 use Rattle.cursor.specs.Position.{Position}
@@ -98,7 +99,8 @@ page_at text = do
   if cells.1.place == length text then Ok (record { level = head.0.0; cells = cells.0 }) else fails cells.1
 
 -- what a reader over a cursor returned and left is what reading gives
-abbrev pub Gives : {X Y : Type 0} → (X → Y) → (Ahead → Result (Y × Ahead) PageFormat) → Position → Position → Result X PageFormat → Type 0
+abbrev pub Gives : {X Y : Type 0} → (X → Y) → (Ahead → Result (Y × Ahead) PageFormat) → Position → Position → Result X PageFormat
+    → Type 0
 Gives view reads old new (Ok x) = reads (ahead old) ≡ Ok (view x, ahead new)
 Gives view reads old new (Err fault) = reads (ahead old) ≡ Err fault
 

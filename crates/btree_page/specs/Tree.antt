@@ -45,7 +45,8 @@ pub record IsRecord (q : Quad) : Type 0 where
   pub value : length q.value ≤ 1200
 
 -- a leaf of these quads, which lie in its range
-pub record IsLeaf (p : PageMap) (slot : Slot) (low : Bound) (high : Option Bound) (quads : List Quad) (slots : List Slot) : Type 0 where
+pub record IsLeaf (p : PageMap) (slot : Slot) (low : Bound) (high : Option Bound) (quads : List Quad)
+    (slots : List Slot) : Type 0 where
   pub page : Holds p slot (record { level = 0; cells = map quad_cell quads })
   pub within : AllIn low high (map quad_bound quads)
   pub reached : slots ≡ slot ∷ []

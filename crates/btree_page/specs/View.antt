@@ -1,5 +1,6 @@
 -- What a view of a page stands for, and the table of its cells' places.
-use Rattle.std.specs.Prelude.{ℕ, ◌≡◌, ◌+◌, ◌<◌, ◌≤◌, ◌==◌, Bool, List, [], length, take, Option, None, Result, Ok, Err, slice_get, slice_index}
+use Rattle.std.specs.Prelude.{ℕ, ◌≡◌, ◌+◌, ◌<◌, ◌≤◌, ◌==◌, Bool, List, [], length, take, Option, None, Result, Ok, Err, slice_get}
+use Rattle.std.specs.Prelude.{slice_index}
 use Rattle.std.specs.List.{flat_map}
 use Rattle.btree_page.specs.declared.format.PageFormat.{PageFormat}
 use Rattle.cursor.specs.Position.{Position}
@@ -16,7 +17,8 @@ pub record StandsAt (is_leaf : Bool) (text : List ℕ) (place : ℕ) (cell : Opt
   pub reads : cell_in is_leaf text place ≡ cell
 
 -- the first n cells read so, up to what is ahead, and the table has the place of each
-pub record IsIndex (is_leaf : Bool) (n : ℕ) (text : List ℕ) (from now : Ahead) (table : List ℕ) (cells : List Entry) : Type 0 where
+pub record IsIndex (is_leaf : Bool) (n : ℕ) (text : List ℕ) (from now : Ahead) (table : List ℕ)
+    (cells : List Entry) : Type 0 where
   pub few : n ≤ 410
   pub read : cells_at is_leaf n None from ≡ Ok (cells, now)
   pub places : (k : ℕ) → k < n → StandsAt is_leaf text (slice_index table k) (slice_get cells k)

@@ -33,7 +33,11 @@ one_leaf (suc n) = None
 
 -- a root of level 1 over two leaves of one record each
 abbrev pub two_leaves : ℕ → Option (List ℕ)
-two_leaves zero = Some (spelling (record { level = 1; cells = inner_entry [] 0 (slot 1) ∷ (inner_entry (98 ∷ []) 0 (slot 2) ∷ []) }))
+two_leaves zero = Some (spelling (record {
+  level = 1;
+  cells = inner_entry [] 0 (slot 1)
+      ∷ (inner_entry (98 ∷ []) 0 (slot 2) ∷ []);
+}))
 two_leaves (suc zero) = Some (leaf_of (record_at 97 ∷ []))
 two_leaves (suc (suc zero)) = Some (leaf_of (record_at 98 ∷ []))
 two_leaves (suc (suc (suc n))) = None

@@ -3,7 +3,8 @@
 ghost use Rattle.std.specs.Prelude.{◌≡◌, ◌+◌, ◌^◌, ◌<◌, ◌≤◌, ◌↔◌, ◌++◌, ◌==◌, None, [], length, IfOk, IsErr, OnOk, OnErr};
 ghost use Rattle.std.specs.Int.{w64, to_be_bytes};
 ghost use Rattle.btree_page.specs.Builder.{with_count};
-ghost use Rattle.btree_page.specs.Content.{string, Content, Spells, IsNext, AreCells, with_cell, with_run, leaf_entry, inner_entry, spelling, entry_spelling};
+ghost use Rattle.btree_page.specs.Content.{string, Content, Spells, IsNext, AreCells, with_cell, with_run, leaf_entry};
+ghost use Rattle.btree_page.specs.Content.{inner_entry, spelling, entry_spelling};
 
 use crate::view::PageView;
 use bytes::BytesMut;

@@ -3,7 +3,8 @@
 ghost use Rattle.std.specs.Prelude.{◌≡◌, length, IfOk};
 ghost use Rattle.std.specs.Int.{w8, w16, w32, w64};
 ghost use Rattle.btree_page.specs.Cells.{entry_of, edge_of};
-ghost use Rattle.btree_page.specs.Reading.{Gives, part_at, number_at, string_at, rest_at, entry_at, plain_at, head_at, key_limit, may_follow};
+ghost use Rattle.btree_page.specs.Reading.{Gives, part_at, number_at, string_at, rest_at, entry_at, plain_at, head_at, key_limit};
+ghost use Rattle.btree_page.specs.Reading.{may_follow};
 
 use crate::cell::{Bound, Cell};
 use crate::format::PageFormat;

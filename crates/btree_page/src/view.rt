@@ -1,6 +1,7 @@
 //! A page, seen as its cells.
 
-ghost use Rattle.std.specs.Prelude.{◌≡◌, ◌+◌, ◌-◌, ◌*◌, ◌<◌, ◌≤◌, ◌↔◌, length, take, drop, None, slice_get, IsNone, IfSome, IfOk, IfErr, IsOkAnd, OnOk, MatchResult};
+ghost use Rattle.std.specs.Prelude.{◌≡◌, ◌+◌, ◌-◌, ◌*◌, ◌<◌, ◌≤◌, ◌↔◌, length, take, drop, None, slice_get, IsNone, IfSome, IfOk};
+ghost use Rattle.std.specs.Prelude.{IfErr, IsOkAnd, OnOk, MatchResult};
 ghost use Rattle.btree_page.specs.Content.{Content, IsPage, Spells, entry_spelling};
 ghost use Rattle.btree_page.specs.Cells.{entry_of};
 ghost use Rattle.btree_page.specs.Reading.{ahead, cells_at, page_at};

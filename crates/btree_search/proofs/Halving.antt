@@ -1,5 +1,6 @@
 -- The halving of a page: the first sought cell lies between two indexes that draw together.
-use Rattle.std.proofs.Common.{◌≡◌, ℕ, ◌<◌, ◌≤◌, ◌+◌, ⊎_elim, Bool, true, false, List, [], ◌∷◌, length, zero, suc, Some, None, refl, subst, arith}
+use Rattle.std.proofs.Common.{◌≡◌, ℕ, ◌<◌, ◌≤◌, ◌+◌, ⊎_elim, Bool, true, false, List, [], ◌∷◌, length, zero, suc, Some, None}
+use Rattle.std.proofs.Common.{refl, subst, arith}
 use Rattle.std.specs.Prelude.{slice_get}
 use Rattle.std.proofs.lemmas.Bool.{cases_lt}
 use Rattle.btree_page.specs.Content.{Bound, Entry, bound_of, AreCells}
@@ -32,7 +33,8 @@ between_all aim pair cells n is = record {
 the_same : (x y : Entry) (cells : List Entry) (k : ℕ) → slice_get cells k ≡ Some x → slice_get cells k ≡ Some y → x ≡ y
 the_same x y cells k p q = cc
 
-pub between_low : (is_leaf : Bool) (aim : Aim) (pair : Bound) (cells : List Entry) (low high middle : ℕ) (x : Entry) → AreCells is_leaf None cells
+pub between_low : (is_leaf : Bool) (aim : Aim) (pair : Bound) (cells : List Entry) (low high middle : ℕ) (x : Entry)
+    → AreCells is_leaf None cells
     → Between aim pair cells low high → low ≤ middle → middle < high → slice_get cells middle ≡ Some x → seeks aim pair x ≡ true
     → Between aim pair cells low middle
 between_low is_leaf aim pair cells low high middle x rules h from to at sought = record {
@@ -48,14 +50,16 @@ between_low is_leaf aim pair cells low high middle x rules h from to at sought =
       (cases_lt middle k);
 }
 
-pub between_high : (is_leaf : Bool) (aim : Aim) (pair : Bound) (cells : List Entry) (low high middle : ℕ) (x : Entry) → AreCells is_leaf None cells
+pub between_high : (is_leaf : Bool) (aim : Aim) (pair : Bound) (cells : List Entry) (low high middle : ℕ) (x : Entry)
+    → AreCells is_leaf None cells
     → Between aim pair cells low high → low ≤ middle → middle < high → slice_get cells middle ≡ Some x → seeks aim pair x ≡ false
     → Between aim pair cells (middle + 1) high
 between_high is_leaf aim pair cells low high middle x rules h from to at unsought = record {
   ordered = omega arith;
   within = h.within;
   before = λ k lt e there. ⊎_elim
-      (λ below. unsought_below aim (bound_of e) (bound_of x) pair (cells_rise is_leaf _ cells k middle e x rules below there at) unsought)
+      (λ below. unsought_below aim (bound_of e) (bound_of x) pair (cells_rise is_leaf _ cells k middle e x rules below there at)
+      unsought)
       (λ ge.
       let is : k ≡ middle = omega arith in
       let same = the_same x e cells middle at (subst (λ (n : ℕ). slice_get cells n ≡ Some e) is there) in
@@ -70,7 +74,8 @@ some_there (c ∷ cells) zero lt = (c, refl)
 some_there (c ∷ cells) (suc k) lt = some_there cells k (omega arith)
 
 -- where the two indexes meet, the sought cells begin
-pub begins : (aim : Aim) (pair : Bound) (cells : List Entry) (low high : ℕ) → Between aim pair cells low high → high ≤ low → BeginsAt aim pair cells low
+pub begins : (aim : Aim) (pair : Bound) (cells : List Entry) (low high : ℕ) → Between aim pair cells low high → high ≤ low
+    → BeginsAt aim pair cells low
 begins aim pair cells low high h met = record {
   within = omega (arith, h.within, h.ordered);
   before = h.before;

@@ -18,7 +18,8 @@ pub turned : (a b : Bound) (o : Ordering) → bound_cmp a b ≡ o → bound_cmp 
 turned a b o e = bound_total.antisymm b a ∙ ap ordering_reverse e
 
 -- a place above one that is sought is sought whatever is sought
-pub above_sought : (aim : Aim) (a b pair : Bound) → IsBelow a b → is_sought aim (bound_cmp a pair) ≡ true → bound_cmp b pair ≡ Greater
+pub above_sought : (aim : Aim) (a b pair : Bound) → IsBelow a b → is_sought aim (bound_cmp a pair) ≡ true
+    → bound_cmp b pair ≡ Greater
 above_sought aim a b pair below sought = at_order aim (bound_cmp a pair) refl sought
   where
     at_order : (aim : Aim) (o : Ordering) → bound_cmp a pair ≡ o → is_sought aim o ≡ true → bound_cmp b pair ≡ Greater
@@ -34,10 +35,12 @@ greater_sought AtOrAfter o e = rw e refl
 greater_sought After o e = rw e refl
 
 -- sought places stay sought upwards, and places that are not sought downwards
-pub sought_above : (aim : Aim) (a b pair : Bound) → IsBelow a b → is_sought aim (bound_cmp a pair) ≡ true → is_sought aim (bound_cmp b pair) ≡ true
+pub sought_above : (aim : Aim) (a b pair : Bound) → IsBelow a b → is_sought aim (bound_cmp a pair) ≡ true
+    → is_sought aim (bound_cmp b pair) ≡ true
 sought_above aim a b pair below sought = greater_sought aim _ (above_sought aim a b pair below sought)
 
-pub unsought_below : (aim : Aim) (a b pair : Bound) → IsBelow a b → is_sought aim (bound_cmp b pair) ≡ false → is_sought aim (bound_cmp a pair) ≡ false
+pub unsought_below : (aim : Aim) (a b pair : Bound) → IsBelow a b → is_sought aim (bound_cmp b pair) ≡ false
+    → is_sought aim (bound_cmp a pair) ≡ false
 unsought_below aim a b pair below unsought = at_test _ refl
   where
     at_test : (t : Bool) → is_sought aim (bound_cmp a pair) ≡ t → is_sought aim (bound_cmp a pair) ≡ false
@@ -58,9 +61,11 @@ cells_above is_leaf (c ∷ cells) b zero e h at =
     let same : c ≡ e = cc in
     let first = follows_below is_leaf b c h.1.0 in rw (← same) first
 cells_above is_leaf (c ∷ cells) b (suc j) e h at =
-    bound_total.trans b (bound_of c) (bound_of e) (follows_below is_leaf b c h.1.0) (cells_above is_leaf cells (bound_of c) j e h.1.1 at)
+    bound_total.trans b (bound_of c) (bound_of e) (follows_below is_leaf b c h.1.0)
+    (cells_above is_leaf cells (bound_of c) j e h.1.1 at)
 
-pub cells_rise : (is_leaf : Bool) (before : Option Bound) (cells : List Entry) (i j : ℕ) (a b : Entry) → AreCells is_leaf before cells → i < j
+pub cells_rise : (is_leaf : Bool) (before : Option Bound) (cells : List Entry) (i j : ℕ) (a b : Entry)
+    → AreCells is_leaf before cells → i < j
     → slice_get cells i ≡ Some a → slice_get cells j ≡ Some b → IsBelow (bound_of a) (bound_of b)
 cells_rise is_leaf before [] i j a b h lt at_i at_j = absurd cc
 cells_rise is_leaf before (c ∷ cells) i zero a b h lt at_i at_j = absurd (omega arith)

@@ -1,5 +1,6 @@
 -- What is read in a slot is what every tree has there, and what each step of a walk makes of its answer.
-use Rattle.std.proofs.Common.{◌≡◌, ◌≢◌, ℕ, zero, suc, ◌-◌, ◌<◌, ◌≤◌, true, false, List, [], ◌∷◌, map, length, drop, Option, Some, None, IsSome, is_some, unwrap_or, Ok, Err, refl, sym, ap, subst, ◌∙◌, arith}
+use Rattle.std.proofs.Common.{◌≡◌, ◌≢◌, ℕ, zero, suc, ◌-◌, ◌<◌, ◌≤◌, true, false, List, [], ◌∷◌, map, length, drop, Option, Some}
+use Rattle.std.proofs.Common.{None, IsSome, is_some, unwrap_or, Ok, Err, refl, sym, ap, subst, ◌∙◌, arith}
 use Rattle.nfs3_types.specs.Count.{Rose}
 use Rattle.pair_types.specs.declared.slot.Slot.{Slot}
 use Rattle.pair_types.specs.declared.quad.Quad.{Quad}
@@ -42,10 +43,12 @@ only_same a = record {
 pub rose_later : (x y z : ℕ) → x ≤ y → Rose y z → Rose x z
 rose_later x y z le rose = omega (arith, rose)
 
-pub cause_later : (a b c : PageState) (P Q : Type 0) (fault : PairFault) → OnlyReads a b → (P → Q) → HasCause b c P fault → HasCause a c Q fault
+pub cause_later : (a b c : PageState) (P Q : Type 0) (fault : PairFault) → OnlyReads a b → (P → Q) → HasCause b c P fault
+    → HasCause a c Q fault
 cause_later a b c P Q Odd h f cause = f cause
 cause_later a b c P Q HeightFull h f cause = cause
-cause_later a b c P Q (Page fault) h f cause = λ isnt. rose_later (a.faults fault) (b.faults fault) (c.faults fault) (h.lasts.faults fault) (cause isnt)
+cause_later a b c P Q (Page fault) h f cause = λ isnt. rose_later (a.faults fault) (b.faults fault) (c.faults fault)
+    (h.lasts.faults fault) (cause isnt)
 
 pub odd_cause : (a b : PageState) (P : Type 0) (fault : PairFault) → fault ≡ Odd → P → HasCause a b P fault
 odd_cause a b P fault is p = subst (λ (f : PairFault). HasCause a b P f) (sym is) p
@@ -66,7 +69,8 @@ part_before old new content under quads h part = record {
   high = part.high;
   slots = part.slots;
   held = subst (λ (w : PageMap). Holds (over w under) part.slot content) h.writes part.held;
-  tree = subst (λ (w : PageMap). Subtree (over w under) content.level part.slot part.low part.high quads part.slots) h.writes part.tree;
+  tree = subst (λ (w : PageMap). Subtree (over w under) content.level part.slot part.low part.high quads part.slots) h.writes
+      part.tree;
 }
 
 -- ---- pages that were read
@@ -105,7 +109,8 @@ one_child cells i a b h k =
 
 -- ---- the children of a page
 
-pub along_part : (state : PageState) (content : Content) (under : PageMap) (quads : List Quad) (level : ℕ) → content.level ≡ suc level
+pub along_part : (state : PageState) (content : Content) (under : PageMap) (quads : List Quad) (level : ℕ)
+    → content.level ≡ suc level
     → IsPart state content under quads → Along (over state.writes under) level content.cells quads
 along_part state content under quads level is part =
     let p = over state.writes under in
@@ -138,7 +143,8 @@ abbrev pub Sees : (PageMap → ℕ → List Quad → Type 0) → List Entry → 
 Sees Passed cells i = (p : PageMap) (level : ℕ) (quads : List Quad) → Passed p level quads → Seen p level cells i
 
 -- what was passed before a read is passed after it
-pub passing_later : (Passed : PageMap → ℕ → List Quad → Type 0) (a b c : PageState) (content : Content) → Passing Passed a b content → OnlyReads b c
+pub passing_later : (Passed : PageMap → ℕ → List Quad → Type 0) (a b c : PageState) (content : Content)
+    → Passing Passed a b content → OnlyReads b c
     → Passing Passed a c content
 passing_later Passed a b c content h only = record {
   only = only_then a b c h.only only;
@@ -148,7 +154,8 @@ passing_later Passed a b c content h only = record {
 }
 
 -- the page that was read for the child is the one that the tree has there
-pub child_bytes : (a b c : PageState) (content : Content) (i : ℕ) (page bytes : List ℕ) (under : PageMap) (quads : List Quad) (child : Slot)
+pub child_bytes : (a b c : PageState) (content : Content) (i : ℕ) (page bytes : List ℕ) (under : PageMap) (quads : List Quad)
+    (child : Slot)
     → IsChildPage a b content.cells i page → OnlyReads b c → IsPart c content under quads → LeadsAt content.cells i child
     → over c.writes under child ≡ Some bytes → page ≡ bytes
 child_bytes a b c content i page bytes under quads child read only part leads there =
@@ -165,7 +172,8 @@ pub child_part : (a b c : PageState) (content below : Content) (i level : ℕ) (
     → (h : Seen (over c.writes under) level content.cells i) → IsPart c below under h.here
 child_part a b c content below i level page under quads read only shown part h =
     let root = root_page (over c.writes under) level h.child h.low h.high h.here h.slots h.tree in
-    let same : page ≡ root.1.bytes = child_bytes a b c content i page root.1.bytes under quads h.child read only part h.leads root.1.held in
+    let same : page ≡ root.1.bytes = child_bytes a b c content i page root.1.bytes under quads h.child read only part h.leads
+    root.1.held in
     let on : level ≡ below.level = omega (arith, shown.from, shown.to) in
     record {
       agrees = part.agrees;
@@ -174,7 +182,12 @@ child_part a b c content below i level page under quads read only shown part h =
       low = h.low;
       high = h.high;
       slots = h.slots;
-      held = record { bytes = root.1.bytes; held = root.1.held; spelled = subst (λ (xs : List ℕ). Spells below xs) same shown.spelled };
+      held = record {
+        bytes = root.1.bytes;
+        held = root.1.held;
+        spelled =
+            subst (λ (xs : List ℕ). Spells below xs) same shown.spelled;
+      };
       tree = subst (λ (n : ℕ). Subtree (over c.writes under) n h.child h.low h.high h.here h.slots) on h.tree;
     }
 
@@ -183,9 +196,14 @@ pub child_shown : (a b : PageState) (content : Content) (i level : ℕ) (page : 
     → (h : Seen (over b.writes under) level content.cells i) → (below : Content) × IsShown level level page below
 child_shown a b content i level page under quads read part h =
     let root = root_page (over b.writes under) level h.child h.low h.high h.here h.slots h.tree in
-    let same : page ≡ root.1.bytes = child_bytes a b b content i page root.1.bytes under quads h.child read (only_same b) part h.leads root.1.held in
+    let same : page ≡ root.1.bytes = child_bytes a b b content i page root.1.bytes under quads h.child read (only_same b) part
+    h.leads root.1.held in
     let shown : IsShown level level page (record { level = level; cells = root.0 }) =
-    record { spelled = subst (λ (xs : List ℕ). Spells (record { level = level; cells = root.0 }) xs) (sym same) root.1.spelled; from = omega arith; to = omega arith } in
+    record {
+      spelled = subst (λ (xs : List ℕ). Spells (record { level = level; cells = root.0 }) xs) (sym same) root.1.spelled;
+      from = omega arith;
+      to = omega arith;
+    } in
     (_, shown)
 
 -- ---- what a walk answers
@@ -194,22 +212,26 @@ level_above : (n : ℕ) → n ≢ 0 → n ≡ suc (n - 1)
 level_above n isnt = omega (arith, isnt)
 
 -- the child's page could not be read
-pub lost : (Found : List Quad → Option Quad → Type 0) (Passed : PageMap → ℕ → List Quad → Type 0) (a b c : PageState) (content : Content) (i : ℕ) (fault : PairFault)
+pub lost : (Found : List Quad → Option Quad → Type 0) (Passed : PageMap → ℕ → List Quad → Type 0) (a b c : PageState)
+    (content : Content) (i : ℕ) (fault : PairFault)
     → content.level ≢ 0 → Sees Passed content.cells i
-    → Passing Passed a b content → OnlyReads b c → HasCause b c (HasNoChild content.cells i) fault → Walks Found a c content (Err fault)
+    → Passing Passed a b content → OnlyReads b c → HasCause b c (HasNoChild content.cells i) fault
+    → Walks Found a c content (Err fault)
 lost Found Passed a b c content i fault inner sees h only cause =
     let later = passing_later Passed a b c content h only in
     record {
       only = later.only;
       answer = cause_later a b c (HasNoChild content.cells i) (HasNoPart c content) fault h.only
           (λ none under quads part.
-          let o = sees (over c.writes under) (content.level - 1) quads (later.passed (content.level - 1) (level_above _ inner) under quads part) in
+          let o = sees (over c.writes under) (content.level - 1) quads (later.passed (content.level - 1) (level_above _ inner)
+          under quads part) in
           none o.child o.leads)
           cause;
     }
 
 -- the child's page is no page of the level
-pub misshown : (Found : List Quad → Option Quad → Type 0) (Passed : PageMap → ℕ → List Quad → Type 0) (a b c : PageState) (content : Content) (i : ℕ) (page : List ℕ)
+pub misshown : (Found : List Quad → Option Quad → Type 0) (Passed : PageMap → ℕ → List Quad → Type 0) (a b c : PageState)
+    (content : Content) (i : ℕ) (page : List ℕ)
     (fault : PairFault) → content.level ≢ 0 → Sees Passed content.cells i
     → Passing Passed a b content → OnlyReads b c → IsChildPage b c content.cells i page → fault ≡ Odd
     → ((below : Content) → IsShown (content.level - 1) (content.level - 1) page below → ⊥) → Walks Found a c content (Err fault)
@@ -218,14 +240,17 @@ misshown Found Passed a b c content i page fault inner sees h only read is none 
     record {
       only = later.only;
       answer = odd_cause a c (HasNoPart c content) fault is (λ under quads part.
-          let o = sees (over c.writes under) (content.level - 1) quads (later.passed (content.level - 1) (level_above _ inner) under quads part) in
+          let o = sees (over c.writes under) (content.level - 1) quads (later.passed (content.level - 1) (level_above _ inner)
+          under quads part) in
           let shown = child_shown b c content i (content.level - 1) page under quads read part o in none shown.0 shown.1);
     }
 
 -- the walk below the child gave up
-pub gave_up : (Found : List Quad → Option Quad → Type 0) (Passed : PageMap → ℕ → List Quad → Type 0) (a b c d : PageState) (content below : Content) (i : ℕ)
+pub gave_up : (Found : List Quad → Option Quad → Type 0) (Passed : PageMap → ℕ → List Quad → Type 0) (a b c d : PageState)
+    (content below : Content) (i : ℕ)
     (page : List ℕ) (fault : PairFault) → content.level ≢ 0 → Sees Passed content.cells i
-    → Passing Passed a b content → OnlyReads b c → IsChildPage b c content.cells i page → IsShown (content.level - 1) (content.level - 1) page below
+    → Passing Passed a b content → OnlyReads b c → IsChildPage b c content.cells i page
+    → IsShown (content.level - 1) (content.level - 1) page below
     → Walks Found c d below (Err fault) → Walks Found a d content (Err fault)
 gave_up Found Passed a b c d content below i page fault inner sees h only read shown walks =
     let later = passing_later Passed a b c content h only in
@@ -234,16 +259,20 @@ gave_up Found Passed a b c d content below i page fault inner sees h only read s
       only = last.only;
       answer = cause_later a c d (HasNoPart d below) (HasNoPart d content) fault later.only
           (λ none under quads part.
-          let o = sees (over d.writes under) (content.level - 1) quads (last.passed (content.level - 1) (level_above _ inner) under quads part) in
+          let o = sees (over d.writes under) (content.level - 1) quads (last.passed (content.level - 1) (level_above _ inner)
+          under quads part) in
           none under o.here (child_part b c d content below i (content.level - 1) page under quads read walks.only shown part o))
           walks.answer;
     }
 
 -- the child has the record
-pub hit : (Found : List Quad → Option Quad → Type 0) (Passed : PageMap → ℕ → List Quad → Type 0) (a b c d : PageState) (content below : Content) (i : ℕ)
+pub hit : (Found : List Quad → Option Quad → Type 0) (Passed : PageMap → ℕ → List Quad → Type 0) (a b c d : PageState)
+    (content below : Content) (i : ℕ)
     (page : List ℕ) (found : Option Quad) → content.level ≢ 0 → (sees : Sees Passed content.cells i)
-    → ((p : PageMap) (level : ℕ) (quads : List Quad) (h : Passed p level quads) (q : Quad) → Found (sees p level quads h).here (Some q) → Found quads (Some q))
-    → Passing Passed a b content → OnlyReads b c → IsChildPage b c content.cells i page → IsShown (content.level - 1) (content.level - 1) page below
+    → ((p : PageMap) (level : ℕ) (quads : List Quad) (h : Passed p level quads) (q : Quad)
+    → Found (sees p level quads h).here (Some q) → Found quads (Some q))
+    → Passing Passed a b content → OnlyReads b c → IsChildPage b c content.cells i page
+    → IsShown (content.level - 1) (content.level - 1) page below
     → Walks Found c d below (Ok found) → is_some found ≡ true → Walks Found a d content (Ok found)
 hit Found Passed a b c d content below i page None inner sees hits h only read shown walks some = absurd cc
 hit Found Passed a b c d content below i page (Some q) inner sees hits h only read shown walks some =
@@ -254,14 +283,18 @@ hit Found Passed a b c d content below i page (Some q) inner sees hits h only re
           let passed = last.passed (content.level - 1) (level_above _ inner) under quads part in
           let o = sees (over d.writes under) (content.level - 1) quads passed in
           hits (over d.writes under) (content.level - 1) quads passed q
-          (walks.answer under o.here (child_part b c d content below i (content.level - 1) page under quads read walks.only shown part o));
+          (walks.answer under o.here (child_part b c d content below i (content.level - 1) page under quads read walks.only shown
+          part o));
     }
 
 -- the child has none, and the walk goes on
-pub miss : (Found : List Quad → Option Quad → Type 0) (Passed Next : PageMap → ℕ → List Quad → Type 0) (a b c d : PageState) (content below : Content) (i : ℕ)
+pub miss : (Found : List Quad → Option Quad → Type 0) (Passed Next : PageMap → ℕ → List Quad → Type 0) (a b c d : PageState)
+    (content below : Content) (i : ℕ)
     (page : List ℕ) (found : Option Quad) → content.level ≢ 0 → (sees : Sees Passed content.cells i)
-    → ((p : PageMap) (level : ℕ) (quads : List Quad) (h : Passed p level quads) → Found (sees p level quads h).here None → Next p level quads)
-    → Passing Passed a b content → OnlyReads b c → IsChildPage b c content.cells i page → IsShown (content.level - 1) (content.level - 1) page below
+    → ((p : PageMap) (level : ℕ) (quads : List Quad) (h : Passed p level quads) → Found (sees p level quads h).here None
+    → Next p level quads)
+    → Passing Passed a b content → OnlyReads b c → IsChildPage b c content.cells i page
+    → IsShown (content.level - 1) (content.level - 1) page below
     → Walks Found c d below (Ok found) → is_some found ≡ false → Passing Next a d content
 miss Found Passed Next a b c d content below i page (Some q) inner sees passes h only read shown walks some = absurd cc
 miss Found Passed Next a b c d content below i page None inner sees passes h only read shown walks some =
@@ -278,8 +311,10 @@ miss Found Passed Next a b c d content below i page None inner sees passes h onl
     }
 
 -- no child has any
-pub last : (Found : List Quad → Option Quad → Type 0) (Passed : PageMap → ℕ → List Quad → Type 0) (a b : PageState) (content : Content) → content.level ≢ 0
-    → ((p : PageMap) (level : ℕ) (quads : List Quad) → Passed p level quads → Found quads None) → Passing Passed a b content → Walks Found a b content (Ok None)
+pub last : (Found : List Quad → Option Quad → Type 0) (Passed : PageMap → ℕ → List Quad → Type 0) (a b : PageState)
+    (content : Content) → content.level ≢ 0
+    → ((p : PageMap) (level : ℕ) (quads : List Quad) → Passed p level quads → Found quads None) → Passing Passed a b content
+    → Walks Found a b content (Ok None)
 last Found Passed a b content inner ends h = record {
   only = h.only;
   answer = λ under quads part.
@@ -303,21 +338,28 @@ starts aim pair state content past n rules inner begins is = record {
       (λ k lt e there. begins.before (suc k) (omega (arith, is, lt)) e there);
 }
 
-pub sees_forwards : (aim : Aim) (pair : Bound) (cells : List Entry) (i : ℕ) → i < length cells → Sees (Forwards aim pair cells i) cells i
+pub sees_forwards : (aim : Aim) (pair : Bound) (cells : List Entry) (i : ℕ) → i < length cells
+    → Sees (Forwards aim pair cells i) cells i
 sees_forwards aim pair cells i lt p level quads h =
     let o = opens p level aim pair cells i quads lt h in
     record { here = o.here; child = o.child; low = o.low; high = o.high; slots = o.slots; leads = o.leads; tree = o.tree }
 
-pub hits_forwards : (aim : Aim) (pair : Bound) (cells : List Entry) (i : ℕ) (lt : i < length cells) (p : PageMap) (level : ℕ) (quads : List Quad)
-    (h : Forwards aim pair cells i p level quads) (q : Quad) → IsFound aim pair (sees_forwards aim pair cells i lt p level quads h).here (Some q) → IsFound aim pair quads (Some q)
+pub hits_forwards : (aim : Aim) (pair : Bound) (cells : List Entry) (i : ℕ) (lt : i < length cells) (p : PageMap) (level : ℕ)
+    (quads : List Quad)
+    (h : Forwards aim pair cells i p level quads) (q : Quad)
+    → IsFound aim pair (sees_forwards aim pair cells i lt p level quads h).here (Some q) → IsFound aim pair quads (Some q)
 unfolding sees_forwards
-hits_forwards aim pair cells i lt p level quads h q found = hits p level aim pair cells i quads q (opens p level aim pair cells i quads lt h) found
+hits_forwards aim pair cells i lt p level quads h q found = hits p level aim pair cells i quads q
+    (opens p level aim pair cells i quads lt h) found
 
-pub passes_forwards : (aim : Aim) (pair : Bound) (cells : List Entry) (i n : ℕ) (lt : i < length cells) → n ≡ suc i → (p : PageMap) (level : ℕ) (quads : List Quad)
-    (h : Forwards aim pair cells i p level quads) → IsFound aim pair (sees_forwards aim pair cells i lt p level quads h).here None → Forwards aim pair cells n p level quads
+pub passes_forwards : (aim : Aim) (pair : Bound) (cells : List Entry) (i n : ℕ) (lt : i < length cells) → n ≡ suc i
+    → (p : PageMap) (level : ℕ) (quads : List Quad)
+    (h : Forwards aim pair cells i p level quads) → IsFound aim pair (sees_forwards aim pair cells i lt p level quads h).here None
+    → Forwards aim pair cells n p level quads
 unfolding sees_forwards
 passes_forwards aim pair cells i n lt is p level quads h none =
-    subst (λ (m : ℕ). Passed p level aim pair (drop m cells) quads) (sym is) (passes p level aim pair cells i quads (opens p level aim pair cells i quads lt h) none)
+    subst (λ (m : ℕ). Passed p level aim pair (drop m cells) quads) (sym is) (passes p level aim pair cells i quads
+    (opens p level aim pair cells i quads lt h) none)
 
 drop_past : (cells : List Entry) (n : ℕ) → length cells ≤ n → drop n cells ≡ []
 drop_past [] zero le = refl
@@ -325,7 +367,8 @@ drop_past [] (suc n) le = refl
 drop_past (c ∷ cells) zero le = absurd (omega arith)
 drop_past (c ∷ cells) (suc n) le = drop_past cells n (omega arith)
 
-pub ends_forwards : (aim : Aim) (pair : Bound) (cells : List Entry) (i : ℕ) → length cells ≤ i → (p : PageMap) (level : ℕ) (quads : List Quad)
+pub ends_forwards : (aim : Aim) (pair : Bound) (cells : List Entry) (i : ℕ) → length cells ≤ i
+    → (p : PageMap) (level : ℕ) (quads : List Quad)
     → Forwards aim pair cells i p level quads → IsFound aim pair quads None
 ends_forwards aim pair cells i le p level quads h =
     ends p level aim pair quads (subst (λ (es : List Entry). Passed p level aim pair es quads) (drop_past cells i le) h)

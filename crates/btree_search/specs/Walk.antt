@@ -30,7 +30,8 @@ pub record IsPart (state : PageState) (content : Content) (under : PageMap) (qua
 
 -- the answer is right of every such part
 abbrev pub IsFoundBelow : (List Quad → Option Quad → Type 0) → PageState → Content → Option Quad → Type 0
-IsFoundBelow Found state content found = (under : PageMap) (quads : List Quad) → IsPart state content under quads → Found quads found
+IsFoundBelow Found state content found = (under : PageMap) (quads : List Quad) → IsPart state content under quads
+    → Found quads found
 
 -- there is no such part
 abbrev pub HasNoPart : PageState → Content → Type 0
@@ -75,11 +76,13 @@ pub record IsChildPage (old new : PageState) (cells : List Entry) (i : ℕ) (pag
   pub reads : Reads old new slot page
 
 -- the answer of a walk is right, or it has a cause
-abbrev pub IsAnswer : (List Quad → Option Quad → Type 0) → PageState → PageState → Content → Result (Option Quad) PairFault → Type 0
+abbrev pub IsAnswer : (List Quad → Option Quad → Type 0) → PageState → PageState → Content → Result (Option Quad) PairFault
+    → Type 0
 IsAnswer Found old new content (Ok found) = IsFoundBelow Found new content found
 IsAnswer Found old new content (Err fault) = HasCause old new (HasNoPart new content) fault
 
 -- what a walk below a page answers and leaves
-pub record Walks (Found : List Quad → Option Quad → Type 0) (old new : PageState) (content : Content) (result : Result (Option Quad) PairFault) : Type 0 where
+pub record Walks (Found : List Quad → Option Quad → Type 0) (old new : PageState) (content : Content)
+    (result : Result (Option Quad) PairFault) : Type 0 where
   pub only : OnlyReads old new
   pub answer : IsAnswer Found old new content result

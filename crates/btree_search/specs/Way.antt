@@ -19,7 +19,8 @@ pub record EndsAt (pair : Bound) (cells : List Entry) (q : Quad) : Type 0 where
   pub there : slice_get cells at ≡ Some (quad_cell q)
 
 -- the way goes on in the child behind the last cell at or below the pair, whose page is of this level
-pub record GoesDown (Goes : List Entry → Quad → Type 0) (p : PageMap) (level : ℕ) (pair : Bound) (cells : List Entry) (q : Quad) : Type 0 where
+pub record GoesDown (Goes : List Entry → Quad → Type 0) (p : PageMap) (level : ℕ) (pair : Bound) (cells : List Entry)
+    (q : Quad) : Type 0 where
   pub past : ℕ
   pub begins : BeginsAt After pair cells past
   pub child : Slot
@@ -41,7 +42,8 @@ pub record Meets (p : PageMap) (pair : Bound) (q : Quad) : Type 0 where
 
 -- where the way leads to a record, over a map that agrees with what was read, that record was found
 abbrev pub FindsMet : Bound → PageState → Option Quad → Type 0
-FindsMet pair state found = (under : PageMap) → Agrees state.reads under → (q : Quad) → Meets (over state.writes under) pair q → found ≡ Some q
+FindsMet pair state found = (under : PageMap) → Agrees state.reads under → (q : Quad) → Meets (over state.writes under) pair q
+    → found ≡ Some q
 
 -- it is so from one page on, in a search for the places at or after the pair
 abbrev pub FindsFrom : Aim → Bound → PageState → Content → Option Quad → Type 0

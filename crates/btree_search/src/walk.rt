@@ -104,7 +104,8 @@ pub(crate) fn walk<G: Pages>(
     key: &[u8],
     birth: u64,
 ) -> Result<Option<Quad>, PairFault>
-    ensures walks { Walks (IsFound aim (record { key = key.now; birth = birth })) (G.state pages.old) (G.state pages.new) view.now result }
+    ensures walks { Walks (IsFound aim (record { key = key.now; birth = birth })) (G.state pages.old) (G.state pages.new) view.now
+        result }
     ensures met { IfOk result (λ found.
         FindsFrom aim (record { key = key.now; birth = birth }) (G.state pages.new) view.now found) }
     ensures record_fits { IfOk result (λ found. IfSome found (λ q. IsRecord q)) }
@@ -144,7 +145,8 @@ pub(crate) fn walk_back<G: Pages>(
     key: &[u8],
     birth: u64,
 ) -> Result<Option<Quad>, PairFault>
-    ensures walks { Walks (IsFloor (record { key = key.now; birth = birth })) (G.state pages.old) (G.state pages.new) view.now result }
+    ensures walks { Walks (IsFloor (record { key = key.now; birth = birth })) (G.state pages.old) (G.state pages.new) view.now
+        result }
     ensures record_fits { IfOk result (λ found. IfSome found (λ q. IsRecord q)) }
 {
     let level = view.level();

@@ -1,6 +1,8 @@
 -- How contents that end in zeros are cut, filled up, written and read.
-use Rattle.std.proofs.Common.{◌≡◌, ◌∙◌, ℕ, ◌+◌, ◌-◌, ◌≤◌, min, max, List, [], ◌++◌, length, take, drop, sym, ap, arith, append_assoc, length-append, length-drop}
-use Rattle.std.proofs.lemmas.List.{length-take, length-replicate, replicate-append-replicate, drop-replicate, take_all, take-take, append-nil}
+use Rattle.std.proofs.Common.{◌≡◌, ◌∙◌, ℕ, ◌+◌, ◌-◌, ◌≤◌, min, max, List, [], ◌++◌, length, take, drop, sym, ap, arith}
+use Rattle.std.proofs.Common.{append_assoc, length-append, length-drop}
+use Rattle.std.proofs.lemmas.List.{length-take, length-replicate, replicate-append-replicate, drop-replicate, take_all, take-take}
+use Rattle.std.proofs.lemmas.List.{append-nil}
 use Rattle.std.specs.List.{concat}
 use Rattle.file_content.specs.Content.{zeros, resized, written}
 use Rattle.file_content.proofs.Cuts.{take-append, drop-append, take-zeros, take-within}
@@ -68,7 +70,8 @@ written-filled offset k bytes xs =
     ∙ ap (λ (l : List ℕ). drop (offset + length bytes) xs ++ l) (drop-replicate (offset + length bytes - length xs) k 0))
     ∙ (simp append_assoc)
 
-written_within : (offset size : ℕ) (bytes xs : List ℕ) → length xs ≤ size → length (written offset bytes xs) ≤ max size (offset + length bytes)
+written_within : (offset size : ℕ) (bytes xs : List ℕ) → length xs ≤ size → length (written offset bytes xs) ≤ max size
+    (offset + length bytes)
 written_within offset size bytes xs short = omega (arith, length-written offset bytes xs)
 
 written_rest : (offset size : ℕ) (bytes xs : List ℕ) → length xs ≤ size
@@ -91,7 +94,8 @@ read_first offset count size xs short =
     sym (take-within count (size - offset) (drop offset xs) (omega arith))
 
 read_rest : (offset count size : ℕ) (xs : List ℕ) → length xs ≤ size
-    → min (count - length (drop offset xs)) (size - length xs - (offset - length xs)) ≡ min count (size - offset) - length (drop offset xs)
+    → min (count - length (drop offset xs)) (size - length xs - (offset - length xs)) ≡ min count (size - offset) - length
+    (drop offset xs)
 read_rest offset count size xs short = omega (arith, length-drop offset xs)
 
 -- what is read of pieces that are filled up is what is read of the pieces, filled up
@@ -103,9 +107,11 @@ read_over offset count size xs short =
     ∙ ap (take count) (drop-append offset xs (zeros (size - length xs)))
     ∙ ap (λ (l : List ℕ). take count (drop offset xs ++ l)) (drop-replicate (offset - length xs) (size - length xs) 0)
     ∙ take-append count (drop offset xs) (zeros (size - length xs - (offset - length xs)))
-    ∙ ap (λ (l : List ℕ). take count (drop offset xs) ++ l) (take-zeros (count - length (drop offset xs)) (size - length xs - (offset - length xs)))
+    ∙ ap (λ (l : List ℕ). take count (drop offset xs) ++ l) (take-zeros (count - length (drop offset xs))
+    (size - length xs - (offset - length xs)))
     ∙ ap (λ (m : ℕ). take count (drop offset xs) ++ zeros m) (read_rest offset count size xs short)
-    ∙ ap (λ (l : List ℕ). l ++ zeros (min count (size - offset) - length (drop offset xs))) (read_first offset count size xs short)
+    ∙ ap (λ (l : List ℕ). l ++ zeros (min count (size - offset) - length (drop offset xs)))
+    (read_first offset count size xs short)
 
 -- a content that is long enough is cut
 pub resized_short : (n : ℕ) (xs : List ℕ) → n ≤ length xs → resized n xs ≡ take n xs

@@ -1,5 +1,6 @@
 -- Where a list that is joined of two is cut.
-use Rattle.std.proofs.Common.{◌≡◌, ◌∙◌, ℕ, zero, suc, ◌-◌, ◌≤◌, min, List, [], ◌∷◌, ◌++◌, length, take, drop, refl, sym, ap, arith, append_assoc}
+use Rattle.std.proofs.Common.{◌≡◌, ◌∙◌, ℕ, zero, suc, ◌-◌, ◌≤◌, min, List, [], ◌∷◌, ◌++◌, length, take, drop, refl, sym, ap}
+use Rattle.std.proofs.Common.{arith, append_assoc}
 use Rattle.std.proofs.lemmas.List.{length-replicate, drop-replicate, take_min}
 use Rattle.file_content.specs.Content.{zeros}
 
@@ -71,11 +72,14 @@ back_is at hole past left bytes seen part now is seen_is past_is left_is part_is
     let shown : drop at (zeros hole ++ bytes) ≡ drop at now = ap (drop at) is in
     cc
 
-pub read_piece_is : (count at hole gap lead past : ℕ) (bytes seen now before middle after : List ℕ) → zeros hole ++ bytes ≡ now → seen ≡ bytes
+pub read_piece_is : (count at hole gap lead past : ℕ) (bytes seen now before middle after : List ℕ) → zeros hole ++ bytes ≡ now
+    → seen ≡ bytes
     → gap ≡ hole - at → lead ≡ min count gap → past ≡ at - hole → middle ≡ before ++ zeros lead
     → after ≡ middle ++ take (count - lead) (drop past seen) → after ≡ before ++ take count (drop at now)
-read_piece_is count at hole gap lead past bytes seen now before middle after is seen_is gap_is lead_is past_is middle_is after_is =
+read_piece_is count at hole gap lead past bytes seen now before middle after is seen_is gap_is lead_is past_is middle_is
+    after_is =
     let parts = read_piece count at hole bytes in
-    let shown : take count (drop at (zeros hole ++ bytes)) ≡ take count (drop at now) = ap (λ (l : List ℕ). take count (drop at l)) is in
+    let shown : take count (drop at (zeros hole ++ bytes)) ≡ take count (drop at now) =
+    ap (λ (l : List ℕ). take count (drop at l)) is in
     let joined = append_assoc before (zeros lead) (take (count - lead) (drop past bytes)) in
     cc

@@ -1,6 +1,8 @@
 -- Where pieces are cut.
-use Rattle.std.proofs.Common.{◌≡◌, ◌∙◌, ℕ, suc, ◌+◌, ◌-◌, ◌<◌, ◌≤◌, List, [], ◌∷◌, ◌++◌, length, take, drop, get_or, set, refl, sym, ap, subst, arith, append_assoc, length-append, length-drop}
-use Rattle.std.proofs.lemmas.List.{append-nil, take-append-drop, take-append-le, drop-append-le, drop_more, take_more, drop_all, take_all, drop-drop, length-take, set_split, take-take, get_or_read, get_or-take}
+use Rattle.std.proofs.Common.{◌≡◌, ◌∙◌, ℕ, suc, ◌+◌, ◌-◌, ◌<◌, ◌≤◌, List, [], ◌∷◌, ◌++◌, length, take, drop, get_or, set, refl}
+use Rattle.std.proofs.Common.{sym, ap, subst, arith, append_assoc, length-append, length-drop}
+use Rattle.std.proofs.lemmas.List.{append-nil, take-append-drop, take-append-le, drop-append-le, drop_more, take_more, drop_all}
+use Rattle.std.proofs.lemmas.List.{take_all, drop-drop, length-take, set_split, take-take, get_or_read, get_or-take}
 use Rattle.std.specs.List.{concat}
 use Rattle.file_content.specs.Content.{zeros, resized, written}
 use Rattle.file_content.proofs.Cuts.{take-append, drop-append, take-nothing, drop-nothing}
@@ -20,7 +22,8 @@ take_past i rest offset ps at =
     let inner : offset - length (concat (take i ps)) ≡ rest = omega arith in
     ap (take offset) (concat_parts i ps)
     ∙ take-append offset (concat (take i ps)) (concat (drop i ps))
-    ∙ ap (λ (l : List ℕ). l ++ take (offset - length (concat (take i ps))) (concat (drop i ps))) (take_all offset (concat (take i ps)) (omega arith))
+    ∙ ap (λ (l : List ℕ). l ++ take (offset - length (concat (take i ps))) (concat (drop i ps)))
+    (take_all offset (concat (take i ps)) (omega arith))
     ∙ ap (λ (m : ℕ). concat (take i ps) ++ take m (concat (drop i ps))) inner
 
 pub drop_past : (i rest offset : ℕ) (ps : List (List ℕ)) → length (concat (take i ps)) + rest ≡ offset
@@ -29,13 +32,15 @@ drop_past i rest offset ps at =
     let inner : offset - length (concat (take i ps)) ≡ rest = omega arith in
     ap (drop offset) (concat_parts i ps)
     ∙ drop-append offset (concat (take i ps)) (concat (drop i ps))
-    ∙ ap (λ (l : List ℕ). l ++ drop (offset - length (concat (take i ps))) (concat (drop i ps))) (drop_all offset (concat (take i ps)) (omega arith))
+    ∙ ap (λ (l : List ℕ). l ++ drop (offset - length (concat (take i ps))) (concat (drop i ps)))
+    (drop_all offset (concat (take i ps)) (omega arith))
     ∙ ap (λ (m : ℕ). drop m (concat (drop i ps))) inner
 
 -- a piece more before an offset
 pub concat_more : (i : ℕ) (ps : List (List ℕ)) → i < length ps → concat (take (i + 1) ps) ≡ concat (take i ps) ++ get_or ps i []
 concat_more i ps in' =
-    ap concat (take_more ps i [] in') ∙ concat-append (take i ps) (get_or ps i [] ∷ []) ∙ ap (λ (l : List ℕ). concat (take i ps) ++ l) (append-nil (get_or ps i []))
+    ap concat (take_more ps i [] in') ∙ concat-append (take i ps) (get_or ps i [] ∷ [])
+    ∙ ap (λ (l : List ℕ). concat (take i ps) ++ l) (append-nil (get_or ps i []))
 
 concat_next : (i : ℕ) (ps : List (List ℕ)) → i < length ps → concat (drop i ps) ≡ get_or ps i [] ++ concat (drop (i + 1) ps)
 concat_next i ps in' = ap concat (drop_more ps i [] in')
@@ -72,9 +77,13 @@ read_more count offset ps i skip bytes more in' has is =
           has.rest
           ∙ ap (λ (l : List ℕ). bytes ++ take (count - length bytes) (drop skip l)) (concat_next i ps in')
           ∙ ap (λ (l : List ℕ). bytes ++ l) (read_across (count - length bytes) skip (get_or ps i []) (concat (drop (i + 1) ps)))
-          ∙ sym (append_assoc bytes (take (count - length bytes) (drop skip (get_or ps i []))) (take (count - length bytes - length (drop skip (get_or ps i []))) (drop (skip - length (get_or ps i [])) (concat (drop (i + 1) ps)))))
-          ∙ ap (λ (m : ℕ). (bytes ++ take (count - length bytes) (drop skip (get_or ps i []))) ++ take m (drop (skip - length (get_or ps i [])) (concat (drop (i + 1) ps)))) left
-          ∙ ap (λ (l : List ℕ). l ++ take (count - length more) (drop (skip - length (get_or ps i [])) (concat (drop (i + 1) ps)))) (sym is);
+          ∙ sym (append_assoc bytes (take (count - length bytes) (drop skip (get_or ps i [])))
+          (take (count - length bytes - length (drop skip (get_or ps i []))) (drop (skip - length (get_or ps i []))
+          (concat (drop (i + 1) ps)))))
+          ∙ ap (λ (m : ℕ). (bytes ++ take (count - length bytes) (drop skip (get_or ps i [])))
+          ++ take m (drop (skip - length (get_or ps i [])) (concat (drop (i + 1) ps)))) left
+          ∙ ap (λ (l : List ℕ). l ++ take (count - length more) (drop (skip - length (get_or ps i []))
+          (concat (drop (i + 1) ps)))) (sym is);
     }
 
 -- at the end all is read
@@ -139,8 +148,10 @@ cut_in i rest offset ps at in' inside =
     let long : i < length (take (i + 1) ps) = omega (arith, length-take (i + 1) ps) in
     ap concat
     (set_split (take (i + 1) ps) i (take rest (get_or ps i [])) long
-    ∙ ap (λ (l : List (List ℕ)). l ++ take rest (get_or ps i []) ∷ drop (suc i) (take (i + 1) ps)) (take-take i (i + 1) ps (omega arith))
-    ∙ ap (λ (l : List (List ℕ)). take i ps ++ take rest (get_or ps i []) ∷ l) (drop_all (suc i) (take (i + 1) ps) (omega (arith, length-take (i + 1) ps))))
+    ∙ ap (λ (l : List (List ℕ)). l ++ take rest (get_or ps i []) ∷ drop (suc i) (take (i + 1) ps))
+    (take-take i (i + 1) ps (omega arith))
+    ∙ ap (λ (l : List (List ℕ)). take i ps ++ take rest (get_or ps i []) ∷ l)
+    (drop_all (suc i) (take (i + 1) ps) (omega (arith, length-take (i + 1) ps))))
     ∙ concat-append (take i ps) (take rest (get_or ps i []) ∷ [])
     ∙ ap (λ (l : List ℕ). concat (take i ps) ++ l) (append-nil (take rest (get_or ps i [])))
     ∙ before_in i rest offset ps at in' inside
@@ -167,7 +178,8 @@ write_between i k offset ps between front bytes back before behind is =
     ∙ ap (λ (l : List ℕ). concat (take i ps) ++ (l ++ concat (drop (i + k) ps))) is
     ∙ (simp append_assoc)
     ∙ ap (λ (l : List (List ℕ)). concat (take i ps) ++ (front ++ (bytes ++ (back ++ concat l)))) (sym (drop-drop k i ps))
-    ∙ ap (λ (l : List ℕ). concat (take i ps) ++ (front ++ (bytes ++ l))) (behind ∙ sym (drop_past i (length front + length bytes) (offset + length bytes) ps end))
+    ∙ ap (λ (l : List ℕ). concat (take i ps) ++ (front ++ (bytes ++ l))) (behind
+    ∙ sym (drop_past i (length front + length bytes) (offset + length bytes) ps end))
     ∙ sym (append_assoc (concat (take i ps)) front (bytes ++ drop (offset + length bytes) (concat ps)))
     ∙ ap (λ (l : List ℕ). l ++ (bytes ++ drop (offset + length bytes) (concat ps))) before
 
@@ -190,42 +202,50 @@ place_more i rest len offset ps p in' is at len_is within =
 pub before_none : (i rest offset : ℕ) (ps : List (List ℕ)) (part bytes : List ℕ) → length (concat (take i ps)) + rest ≡ offset
     → length ps ≤ i → part ≡ zeros rest ++ bytes → bytes ≡ [] → concat (take i ps) ++ part ≡ resized offset (concat ps)
 before_none i rest offset ps part bytes at past is none =
-    ap (λ (l : List ℕ). concat (take i ps) ++ l) (is ∙ ap (λ (l : List ℕ). zeros rest ++ l) none) ∙ before_past i rest offset ps at past
+    ap (λ (l : List ℕ). concat (take i ps) ++ l) (is ∙ ap (λ (l : List ℕ). zeros rest ++ l) none)
+    ∙ before_past i rest offset ps at past
 
 pub before_some : (i rest offset : ℕ) (ps : List (List ℕ)) (p part : List ℕ) → length (concat (take i ps)) + rest ≡ offset
     → i < length ps → rest ≤ length (get_or ps i []) → p ≡ get_or ps i p → part ≡ take rest p
     → concat (take i ps) ++ part ≡ resized offset (concat ps)
 before_some i rest offset ps p part at in' inside is part_is =
-    ap (λ (l : List ℕ). concat (take i ps) ++ l) (part_is ∙ ap (take rest) (get_or_read ps i p in' is [])) ∙ before_in i rest offset ps at in' inside
+    ap (λ (l : List ℕ). concat (take i ps) ++ l) (part_is ∙ ap (take rest) (get_or_read ps i p in' is []))
+    ∙ before_in i rest offset ps at in' inside
 
 pub behind_some : (i rest offset : ℕ) (ps : List (List ℕ)) (p part : List ℕ) → length (concat (take i ps)) + rest ≡ offset
     → i < length ps → rest ≤ length (get_or ps i []) → p ≡ get_or ps i p → part ≡ drop rest p
     → part ++ concat (drop (i + 1) ps) ≡ drop offset (concat ps)
 behind_some i rest offset ps p part at in' inside is part_is =
-    ap (λ (l : List ℕ). l ++ concat (drop (i + 1) ps)) (part_is ∙ ap (drop rest) (get_or_read ps i p in' is [])) ∙ behind_in i rest offset ps at in' inside
+    ap (λ (l : List ℕ). l ++ concat (drop (i + 1) ps)) (part_is ∙ ap (drop rest) (get_or_read ps i p in' is []))
+    ∙ behind_in i rest offset ps at in' inside
 
-pub cut_some : (i rest offset : ℕ) (ps seen kept : List (List ℕ)) (p part : List ℕ) → seen ≡ ps → length (concat (take i seen)) + rest ≡ offset
+pub cut_some : (i rest offset : ℕ) (ps seen kept : List (List ℕ)) (p part : List ℕ) → seen ≡ ps
+    → length (concat (take i seen)) + rest ≡ offset
     → i < length seen → rest ≤ length (get_or seen i []) → kept ≡ take (i + 1) ps → p ≡ get_or kept i p → part ≡ take rest p
     → concat (set kept i part) ≡ take offset (concat ps)
 cut_some i rest offset ps seen kept p part seen_is at in' inside kept_is is part_is =
     let kept_seen : kept ≡ take (i + 1) seen = kept_is ∙ ap (take (i + 1)) (sym seen_is) in
-    let found : p ≡ get_or seen i p = is ∙ ap (λ (l : List (List ℕ)). get_or l i p) kept_seen ∙ get_or-take (i + 1) seen i p (omega arith) in
+    let found : p ≡ get_or seen i p = is ∙ ap (λ (l : List (List ℕ)). get_or l i p) kept_seen
+    ∙ get_or-take (i + 1) seen i p (omega arith) in
     ap (λ (l : List (List ℕ)). concat (set l i part)) kept_seen
     ∙ ap (λ (l : List ℕ). concat (set (take (i + 1) seen) i l)) (part_is ∙ ap (take rest) (get_or_read seen i p in' found []))
     ∙ cut_in i rest offset seen at in' inside
     ∙ ap (λ (l : List (List ℕ)). take offset (concat l)) seen_is
 
-pub read_step : (count offset i skip next room : ℕ) (ps : List (List ℕ)) (p bytes more : List ℕ) → i < length ps → p ≡ get_or ps i p
+pub read_step : (count offset i skip next room : ℕ) (ps : List (List ℕ)) (p bytes more : List ℕ) → i < length ps
+    → p ≡ get_or ps i p
     → HasRead count offset ps i skip bytes → room ≡ count - length bytes → more ≡ bytes ++ take room (drop skip p)
     → next ≡ skip - length p → HasRead count offset ps (i + 1) next more
 read_step count offset i skip next room ps p bytes more in' is has room_is more_is next_is =
     let seen : p ≡ get_or ps i [] = get_or_read ps i p in' is [] in
     let got : more ≡ bytes ++ take (count - length bytes) (drop skip (get_or ps i [])) =
-    more_is ∙ ap (λ (m : ℕ). bytes ++ take m (drop skip p)) room_is ∙ ap (λ (l : List ℕ). bytes ++ take (count - length bytes) (drop skip l)) seen in
+    more_is ∙ ap (λ (m : ℕ). bytes ++ take m (drop skip p)) room_is
+    ∙ ap (λ (l : List ℕ). bytes ++ take (count - length bytes) (drop skip l)) seen in
     let step : skip - length (get_or ps i []) ≡ next = sym (next_is ∙ ap (λ (l : List ℕ). skip - length l) seen) in
     subst (λ (n : ℕ). HasRead count offset ps (i + 1) n more) step (read_more count offset ps i skip bytes more in' has got)
 
-pub between_is : (b0 b1 b2 b3 : List (List ℕ)) (front middle copied bytes back : List ℕ) → b0 ≡ [] → concat b1 ≡ concat b0 ++ front
+pub between_is : (b0 b1 b2 b3 : List (List ℕ)) (front middle copied bytes back : List ℕ) → b0 ≡ [] → concat b1 ≡ concat b0
+    ++ front
     → concat b2 ≡ concat b1 ++ middle → concat b3 ≡ concat b2 ++ back → middle ≡ zeros 0 ++ copied → copied ≡ bytes
     → concat b3 ≡ front ++ (bytes ++ back)
 between_is b0 b1 b2 b3 front middle copied bytes back none first second third middle_is copied_is =
@@ -234,12 +254,14 @@ between_is b0 b1 b2 b3 front middle copied bytes back none first second third mi
     cc
 
 -- ps is seen by two slices: the whole, and what lies from i on
-pub write_joined : (i k to offset end long : ℕ) (ps whole rest others new : List (List ℕ)) (front bytes back : List ℕ) → whole ≡ ps
+pub write_joined : (i k to offset end long : ℕ) (ps whole rest others new : List (List ℕ)) (front bytes back : List ℕ)
+    → whole ≡ ps
     → concat (take i whole) ++ front ≡ resized offset (concat whole) → rest ≡ drop i ps
     → back ++ concat (drop k rest) ≡ drop end (concat rest) → long ≡ length front → end ≡ long + length bytes → to ≡ i + k
     → concat others ≡ front ++ (bytes ++ back) → new ≡ take i ps ++ (others ++ drop to ps)
     → concat new ≡ written offset bytes (concat ps)
-write_joined i k to offset end long ps whole rest others new front bytes back whole_is before rest_is behind long_is end_is to_is others_is new_is =
+write_joined i k to offset end long ps whole rest others new front bytes back whole_is before rest_is behind long_is end_is to_is
+    others_is new_is =
     let before_ps : concat (take i ps) ++ front ≡ resized offset (concat ps) =
     subst (λ (l : List (List ℕ)). concat (take i l) ++ front ≡ resized offset (concat l)) whole_is before in
     let behind_rest : back ++ concat (drop k (drop i ps)) ≡ drop end (concat (drop i ps)) =

@@ -1,7 +1,8 @@
 //! Rights, names and attributes: the rules that the layers above share. None of them takes memory.
 
 ghost use Rattle.std.specs.Prelude.{◌≡◌};
-ghost use Rattle.fs_rules.specs.Attributes.{apply_sattr, gives_away, is_client_time, is_file, is_server_time, is_too_large, lacks_write, mtime_by, regroups, sattr_fault, time_by, wcc_attr, wcc_of};
+ghost use Rattle.fs_rules.specs.Attributes.{apply_sattr, gives_away, is_client_time, is_file, is_server_time, is_too_large};
+ghost use Rattle.fs_rules.specs.Attributes.{lacks_write, mtime_by, regroups, sattr_fault, time_by, wcc_attr, wcc_of};
 ghost use Rattle.fs_rules.specs.Names.{has_byte, name_fault, target_fault};
 ghost use Rattle.fs_rules.specs.Rights.{bits_for, has_word, is_in_group, may, may_read, may_search, may_write, owns};
 

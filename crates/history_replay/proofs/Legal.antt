@@ -1,5 +1,6 @@
 -- A legal list leads to the tree after the calls that succeeded.
-use Rattle.std.proofs.Common.{◌≡◌, ◌∙◌, ℕ, Bool, true, false, if◌then◌else◌, List, [], ◌∷◌, ◌⊎◌, inl, inr, refl, sym, ap, subst, Ok, Err}
+use Rattle.std.proofs.Common.{◌≡◌, ◌∙◌, ℕ, Bool, true, false, if◌then◌else◌, List, [], ◌∷◌, ◌⊎◌, inl, inr, refl, sym, ap, subst}
+use Rattle.std.proofs.Common.{Ok, Err}
 use Rattle.nfs3_types.specs.declared.entry.Entry.{Entry}
 use Rattle.nfs3_types.specs.declared.reply.Reply.{Reply}
 use Rattle.nfs3_types.specs.declared.status.Status.{Status}

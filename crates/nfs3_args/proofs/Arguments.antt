@@ -3,17 +3,26 @@ use Rattle.std.proofs.Common.{◌≡◌, Option, Some, refl, sym, ap, subst, ◌
 use Rattle.xdr_grammar.specs.Grammar.{Grammar}
 use Rattle.xdr_grammar.specs.Choices.{FitsCase}
 use Rattle.xdr_grammar.specs.Laws.{GivesBack}
-use Rattle.nfs3_types.specs.declared.call.CallOver.TheVariants.{Null, GetAttr, SetAttr, Lookup, Access, ReadLink, Read, Write, Create, Mkdir, Symlink, Mknod, Remove, Rmdir, Rename, Link, ReadDir, ReadDirPlus, FsStat, FsInfo, PathConf, Commit}
+use Rattle.nfs3_types.specs.declared.call.CallOver.TheVariants.{Null, GetAttr, SetAttr, Lookup, Access, ReadLink, Read, Write}
+use Rattle.nfs3_types.specs.declared.call.CallOver.TheVariants.{Create, Mkdir, Symlink, Mknod, Remove, Rmdir, Rename, Link}
+use Rattle.nfs3_types.specs.declared.call.CallOver.TheVariants.{ReadDir, ReadDirPlus, FsStat, FsInfo, PathConf, Commit}
 use Rattle.nfs3_types.specs.Handles.{file_handle}
-use Rattle.nfs3_types.specs.Calls.{Call, called, procedure_of, arguments, call_of, access_args, create_args, dir_op, file_range, link_args, mkdir_args, mknod_args, read_dir_args, read_dir_plus_args, rename_args, set_attr_args, symlink_args, write_args, get_attr_in, set_attr_in, lookup_in, access_in, read_link_in, read_in, write_in, create_in, mkdir_in, symlink_in, mknod_in, remove_in, rmdir_in, rename_in, link_in, read_dir_in, read_dir_plus_in, fs_stat_in, fs_info_in, path_conf_in, commit_in}
+use Rattle.nfs3_types.specs.Calls.{Call, called, procedure_of, arguments, call_of, access_args, create_args, dir_op, file_range}
+use Rattle.nfs3_types.specs.Calls.{link_args, mkdir_args, mknod_args, read_dir_args, read_dir_plus_args, rename_args}
+use Rattle.nfs3_types.specs.Calls.{set_attr_args, symlink_args, write_args, get_attr_in, set_attr_in, lookup_in, access_in}
+use Rattle.nfs3_types.specs.Calls.{read_link_in, read_in, write_in, create_in, mkdir_in, symlink_in, mknod_in, remove_in}
+use Rattle.nfs3_types.specs.Calls.{rmdir_in, rename_in, link_in, read_dir_in, read_dir_plus_in, fs_stat_in, fs_info_in}
+use Rattle.nfs3_types.specs.Calls.{path_conf_in, commit_in}
 use Rattle.nfs3_types.proofs.ProcedureLaws.{procedure_at-number}
 use Rattle.nfs3_args.specs.Fitting.{CanBeSpelled}
 
 some_is : {A : Type 0} (a b : A) → Some a ≡ Some b → a ≡ b
 some_is a b e = cc
 
-case_fits : {A B : Type 0} (make : B → A) (content : A → Option B) (g : Grammar B) (v : B) → GivesBack make content → FitsCase make g (make v) → g.Fits v
-case_fits make content g v back f = subst g.Fits (some_is f.value v (sym (back f.value) ∙ ap content (sym f.made) ∙ back v)) f.fits
+case_fits : {A B : Type 0} (make : B → A) (content : A → Option B) (g : Grammar B) (v : B) → GivesBack make content
+    → FitsCase make g (make v) → g.Fits v
+case_fits make content g v back f = subst g.Fits (some_is f.value v (sym (back f.value) ∙ ap content (sym f.made) ∙ back v))
+    f.fits
 
 -- the grammar of a call's number is that of its procedure
 pub call_of-called : (lent : Call) → call_of (procedure_of lent) ≡ arguments (called lent)

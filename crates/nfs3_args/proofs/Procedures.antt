@@ -3,7 +3,10 @@ use Rattle.std.proofs.Common.{◌≡◌, ℕ, ◌≤◌, ap, ◌∙◌}
 use Rattle.xdr_grammar.specs.Laws.{AllSpelled}
 use Rattle.xdr_grammar.proofs.Rules.{grammar_laws}
 use Rattle.nfs3_types.specs.declared.procedure.Procedure.{Procedure}
-use Rattle.nfs3_types.specs.declared.procedure.Procedure.TheVariants.{Null, GetAttr, SetAttr, Lookup, Access, ReadLink, Read, Write, Create, Mkdir, Symlink, Mknod, Remove, Rmdir, Rename, Link, ReadDir, ReadDirPlus, FsStat, FsInfo, PathConf, Commit}
+use Rattle.nfs3_types.specs.declared.procedure.Procedure.TheVariants.{Null, GetAttr, SetAttr, Lookup, Access, ReadLink, Read}
+use Rattle.nfs3_types.specs.declared.procedure.Procedure.TheVariants.{Write, Create, Mkdir, Symlink, Mknod, Remove, Rmdir, Rename}
+use Rattle.nfs3_types.specs.declared.procedure.Procedure.TheVariants.{Link, ReadDir, ReadDirPlus, FsStat, FsInfo, PathConf}
+use Rattle.nfs3_types.specs.declared.procedure.Procedure.TheVariants.{Commit}
 use Rattle.nfs3_types.specs.Procedures.{procedure_number, procedure_at}
 use Rattle.nfs3_types.specs.Calls.{called, procedure_of, arguments, call_of}
 use Rattle.nfs3_types.proofs.ProcedureLaws.{number-procedure_at}
@@ -35,4 +38,5 @@ arguments-called Commit = search grammar_laws
 
 pub call_of-procedure : (n : ℕ) → n ≤ 21 → AllSpelled (call_of n) (λ lent. procedure_of lent ≡ n)
 unfolding call_of
-call_of-procedure n small lent bytes s = ap procedure_number (arguments-called (procedure_at n) lent bytes s) ∙ number-procedure_at n small
+call_of-procedure n small lent bytes s = ap procedure_number (arguments-called (procedure_at n) lent bytes s)
+    ∙ number-procedure_at n small

@@ -1,8 +1,11 @@
 -- The arguments of a call can be spelled, said variant by variant.
 use Rattle.std.specs.Prelude.{⊤}
-use Rattle.nfs3_types.specs.declared.call.CallOver.TheVariants.{Null, GetAttr, SetAttr, Lookup, Access, ReadLink, Read, Write, Create, Mkdir, Symlink, Mknod, Remove, Rmdir, Rename, Link, ReadDir, ReadDirPlus, FsStat, FsInfo, PathConf, Commit}
+use Rattle.nfs3_types.specs.declared.call.CallOver.TheVariants.{Null, GetAttr, SetAttr, Lookup, Access, ReadLink, Read, Write}
+use Rattle.nfs3_types.specs.declared.call.CallOver.TheVariants.{Create, Mkdir, Symlink, Mknod, Remove, Rmdir, Rename, Link}
+use Rattle.nfs3_types.specs.declared.call.CallOver.TheVariants.{ReadDir, ReadDirPlus, FsStat, FsInfo, PathConf, Commit}
 use Rattle.nfs3_types.specs.Handles.{file_handle}
-use Rattle.nfs3_types.specs.Calls.{Call, access_args, create_args, dir_op, file_range, link_args, mkdir_args, mknod_args, read_dir_args, read_dir_plus_args, rename_args, set_attr_args, symlink_args, write_args}
+use Rattle.nfs3_types.specs.Calls.{Call, access_args, create_args, dir_op, file_range, link_args, mkdir_args, mknod_args}
+use Rattle.nfs3_types.specs.Calls.{read_dir_args, read_dir_plus_args, rename_args, set_attr_args, symlink_args, write_args}
 
 abbrev pub CanBeSpelled : Call → Type 0
 CanBeSpelled Null = ⊤

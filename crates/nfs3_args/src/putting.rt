@@ -1,7 +1,9 @@
 //! Writing the arguments of each procedure.
 
 ghost use Rattle.xdr_grammar.specs.Writing.{Puts};
-ghost use Rattle.nfs3_types.specs.Calls.{dir_op, create_how, device_data, mknod_data, set_attr_args, access_args, file_range, write_args, create_args, mkdir_args, symlink_args, mknod_args, rename_args, link_args, read_dir_args, read_dir_plus_args};
+ghost use Rattle.nfs3_types.specs.Calls.{dir_op, create_how, device_data, mknod_data, set_attr_args, access_args, file_range};
+ghost use Rattle.nfs3_types.specs.Calls.{write_args, create_args, mkdir_args, symlink_args, mknod_args, rename_args, link_args};
+ghost use Rattle.nfs3_types.specs.Calls.{read_dir_args, read_dir_plus_args};
 
 use crate::texts::{put_handle, put_text};
 use nfs3_items::{

@@ -1,7 +1,9 @@
 //! Reading what stands behind a directory's name, and the arguments of each procedure.
 
 ghost use Rattle.xdr_grammar.specs.Reading.{Gives};
-ghost use Rattle.nfs3_types.specs.Calls.{dir_op, create_how, device_data, of_type, mknod_data, set_attr_args, access_args, file_range, write_args, create_args, mkdir_args, symlink_args, mknod_args, rename_args, link_args, read_dir_args, read_dir_plus_args};
+ghost use Rattle.nfs3_types.specs.Calls.{dir_op, create_how, device_data, of_type, mknod_data, set_attr_args, access_args};
+ghost use Rattle.nfs3_types.specs.Calls.{file_range, write_args, create_args, mkdir_args, symlink_args, mknod_args, rename_args};
+ghost use Rattle.nfs3_types.specs.Calls.{link_args, read_dir_args, read_dir_plus_args};
 
 use nfs3_items::{
     read_file_type, read_handle, read_optional_time, read_sattr, read_spec_data, read_stable_how,

@@ -2,7 +2,9 @@
 
 ghost use Rattle.std.specs.Prelude.{◌≡◌, ◌^◌, ◌<◌, ◌≤◌};
 ghost use Rattle.nfs3_args.specs.Fitting.{CanBeSpelled};
-ghost use Rattle.nfs3_types.specs.Calls.{called, procedure_of, arguments, call_of, dir_op, create_how, mknod_data, set_attr_args, access_args, file_range, write_args, create_args, mkdir_args, symlink_args, mknod_args, rename_args, link_args, read_dir_args, read_dir_plus_args};
+ghost use Rattle.nfs3_types.specs.Calls.{called, procedure_of, arguments, call_of, dir_op, create_how, mknod_data, set_attr_args};
+ghost use Rattle.nfs3_types.specs.Calls.{access_args, file_range, write_args, create_args, mkdir_args, symlink_args, mknod_args};
+ghost use Rattle.nfs3_types.specs.Calls.{rename_args, link_args, read_dir_args, read_dir_plus_args};
 
 use crate::texts::{handle_size, text_size};
 use nfs3_items::{optional_time_size, sattr_size};

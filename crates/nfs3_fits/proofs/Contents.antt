@@ -17,20 +17,37 @@ use Rattle.nfs3_types.specs.declared.body.PathConfOk.{PathConfOk}
 use Rattle.nfs3_types.specs.declared.body.CommitOk.{CommitOk}
 use Rattle.nfs3_types.specs.Attributes.{time, post_op_attr, wcc_data}
 use Rattle.nfs3_types.specs.Calls.{verifier}
-use Rattle.nfs3_types.specs.Replies.{lookup_ok, access_ok, read_link_ok, read_ok, write_ok, create_ok, rename_ok, link_ok, fs_stat_ok, fs_info_ok, path_conf_ok, commit_ok}
+use Rattle.nfs3_types.specs.Replies.{lookup_ok, access_ok, read_link_ok, read_ok, write_ok, create_ok, rename_ok, link_ok}
+use Rattle.nfs3_types.specs.Replies.{fs_stat_ok, fs_info_ok, path_conf_ok, commit_ok}
 use Rattle.nfs3_fits.proofs.Structures.{stable_fits, text_fits_by, handle_fits_by, post_handle_fits_by}
 
-pub lookup_fits_by : (r : LookupOk) → length r.object ≤ 64 → post_op_attr.Fits r.attributes → post_op_attr.Fits r.directory → lookup_ok.Fits r
+pub lookup_fits_by : (r : LookupOk) → length r.object ≤ 64 → post_op_attr.Fits r.attributes → post_op_attr.Fits r.directory
+    → lookup_ok.Fits r
 unfolding lookup_ok
-lookup_fits_by r object attributes directory = record { first = handle_fits_by r.object object; second = record { first = attributes; second = record { first = directory; second = refl } } }
+lookup_fits_by r object attributes directory = record {
+  first = handle_fits_by r.object object;
+  second =
+      record { first = attributes; second = record { first = directory; second = refl } };
+}
 
 pub access_fits_by : (r : AccessOk) → post_op_attr.Fits r.attributes → r.access < 2 ^ 32 → access_ok.Fits r
 unfolding access_ok
-access_fits_by r attributes access = record { first = attributes; second = record { first = word_fits r.access access; second = refl } }
+access_fits_by r attributes access = record {
+  first = attributes;
+  second = record {
+    first = word_fits r.access access;
+    second =
+        refl;
+  };
+}
 
 pub read_link_fits_by : (r : ReadLinkOk) → post_op_attr.Fits r.attributes → length r.target ≤ 65536 → read_link_ok.Fits r
 unfolding read_link_ok
-read_link_fits_by r attributes target = record { first = attributes; second = record { first = text_fits_by r.target (omega (arith, target)); second = refl } }
+read_link_fits_by r attributes target = record {
+  first = attributes;
+  second =
+      record { first = text_fits_by r.target (omega (arith, target)); second = refl };
+}
 
 pub read_fits_by : (r : ReadOk) → post_op_attr.Fits r.attributes → word.Fits r.count → length r.«data» ≤ 65536 → read_ok.Fits r
 unfolding read_ok
@@ -66,9 +83,14 @@ write_fits_by r file count verifier =
           };
     }
 
-pub create_fits_by : (r : CreateOk) → IfSome r.object (λ h. length h ≤ 64) → post_op_attr.Fits r.attributes → wcc_data.Fits r.directory → create_ok.Fits r
+pub create_fits_by : (r : CreateOk) → IfSome r.object (λ h. length h ≤ 64) → post_op_attr.Fits r.attributes
+    → wcc_data.Fits r.directory → create_ok.Fits r
 unfolding create_ok
-create_fits_by r object attributes directory = record { first = post_handle_fits_by r.object object; second = record { first = attributes; second = record { first = directory; second = refl } } }
+create_fits_by r object attributes directory = record {
+  first = post_handle_fits_by r.object object;
+  second =
+      record { first = attributes; second = record { first = directory; second = refl } };
+}
 
 pub rename_fits_by : (r : RenameOk) → wcc_data.Fits r.from → wcc_data.Fits r.to → rename_ok.Fits r
 unfolding rename_ok
@@ -78,7 +100,8 @@ pub link_fits_by : (r : LinkOk) → post_op_attr.Fits r.attributes → wcc_data.
 unfolding link_ok
 link_fits_by r attributes directory = record { first = attributes; second = record { first = directory; second = refl } }
 
-pub fs_stat_fits_by : (r : FsStatOk) → post_op_attr.Fits r.attributes → r.tbytes < 2 ^ 64 → r.fbytes < 2 ^ 64 → r.abytes < 2 ^ 64 → r.tfiles < 2 ^ 64 → r.ffiles < 2 ^ 64 → r.afiles < 2 ^ 64 → r.invarsec < 2 ^ 32 → fs_stat_ok.Fits r
+pub fs_stat_fits_by : (r : FsStatOk) → post_op_attr.Fits r.attributes → r.tbytes < 2 ^ 64 → r.fbytes < 2 ^ 64 → r.abytes < 2 ^ 64
+    → r.tfiles < 2 ^ 64 → r.ffiles < 2 ^ 64 → r.afiles < 2 ^ 64 → r.invarsec < 2 ^ 32 → fs_stat_ok.Fits r
 unfolding fs_stat_ok
 fs_stat_fits_by r attributes tbytes fbytes abytes tfiles ffiles afiles invarsec =
     record {
@@ -111,7 +134,9 @@ fs_stat_fits_by r attributes tbytes fbytes abytes tfiles ffiles afiles invarsec 
           };
     }
 
-pub fs_info_fits_by : (r : FsInfoOk) → post_op_attr.Fits r.attributes → r.rtmax < 2 ^ 32 → r.rtpref < 2 ^ 32 → r.rtmult < 2 ^ 32 → r.wtmax < 2 ^ 32 → r.wtpref < 2 ^ 32 → r.wtmult < 2 ^ 32 → r.dtpref < 2 ^ 32 → r.maxfilesize < 2 ^ 64 → time.Fits r.time_delta → r.properties < 2 ^ 32 → fs_info_ok.Fits r
+pub fs_info_fits_by : (r : FsInfoOk) → post_op_attr.Fits r.attributes → r.rtmax < 2 ^ 32 → r.rtpref < 2 ^ 32 → r.rtmult < 2 ^ 32
+    → r.wtmax < 2 ^ 32 → r.wtpref < 2 ^ 32 → r.wtmult < 2 ^ 32 → r.dtpref < 2 ^ 32 → r.maxfilesize < 2 ^ 64
+    → time.Fits r.time_delta → r.properties < 2 ^ 32 → fs_info_ok.Fits r
 unfolding fs_info_ok
 fs_info_fits_by r attributes rtmax rtpref rtmult wtmax wtpref wtmult dtpref maxfilesize time_delta properties =
     record {
@@ -144,7 +169,11 @@ fs_info_fits_by r attributes rtmax rtpref rtmult wtmax wtpref wtmult dtpref maxf
                                                           record {
                                                             first = time_delta;
                                                             second =
-                                                                record { first = word_fits r.properties properties; second = refl };
+                                                                record {
+                                                                  first = word_fits r.properties properties;
+                                                                  second =
+                                                                      refl;
+                                                                };
                                                           };
                                                     };
                                               };
@@ -156,7 +185,8 @@ fs_info_fits_by r attributes rtmax rtpref rtmult wtmax wtpref wtmult dtpref maxf
           };
     }
 
-pub path_conf_fits_by : (r : PathConfOk) → post_op_attr.Fits r.attributes → r.linkmax < 2 ^ 32 → r.name_max < 2 ^ 32 → path_conf_ok.Fits r
+pub path_conf_fits_by : (r : PathConfOk) → post_op_attr.Fits r.attributes → r.linkmax < 2 ^ 32 → r.name_max < 2 ^ 32
+    → path_conf_ok.Fits r
 unfolding path_conf_ok
 path_conf_fits_by r attributes linkmax name_max =
     record {

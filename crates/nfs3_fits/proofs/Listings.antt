@@ -15,9 +15,17 @@ use Rattle.nfs3_fits.proofs.Structures.{text_fits_by, post_handle_fits_by}
 
 pub dir_entry_fits_by : (r : DirEntry) → hyper.Fits r.fileid → length r.name ≤ 2 ^ 20 → hyper.Fits r.cookie → dir_entry.Fits r
 unfolding dir_entry
-dir_entry_fits_by r fileid name cookie = record { first = fileid; second = record { first = text_fits_by r.name name; second = record { first = cookie; second = refl } } }
+dir_entry_fits_by r fileid name cookie = record {
+  first = fileid;
+  second = record {
+    first = text_fits_by r.name name;
+    second =
+        record { first = cookie; second = refl };
+  };
+}
 
-pub dir_entry_plus_fits_by : (r : DirEntryPlus) → hyper.Fits r.fileid → length r.name ≤ 2 ^ 20 → hyper.Fits r.cookie → post_op_attr.Fits r.attributes → IfSome r.object (λ h. length h ≤ 64) → dir_entry_plus.Fits r
+pub dir_entry_plus_fits_by : (r : DirEntryPlus) → hyper.Fits r.fileid → length r.name ≤ 2 ^ 20 → hyper.Fits r.cookie
+    → post_op_attr.Fits r.attributes → IfSome r.object (λ h. length h ≤ 64) → dir_entry_plus.Fits r
 unfolding dir_entry_plus
 dir_entry_plus_fits_by r fileid name cookie attributes object =
     record {
@@ -38,7 +46,8 @@ dir_entry_plus_fits_by r fileid name cookie attributes object =
           };
     }
 
-pub read_dir_fits_by : (r : ReadDirOk) → post_op_attr.Fits r.attributes → verifier.Fits r.verifier → All dir_entry.Fits r.entries → read_dir_ok.Fits r
+pub read_dir_fits_by : (r : ReadDirOk) → post_op_attr.Fits r.attributes → verifier.Fits r.verifier → All dir_entry.Fits r.entries
+    → read_dir_ok.Fits r
 unfolding read_dir_ok entries
 read_dir_fits_by r attributes verifier entries =
     record {
@@ -55,7 +64,8 @@ read_dir_fits_by r attributes verifier entries =
           };
     }
 
-pub read_dir_plus_fits_by : (r : ReadDirPlusOk) → post_op_attr.Fits r.attributes → verifier.Fits r.verifier → All dir_entry_plus.Fits r.entries → read_dir_plus_ok.Fits r
+pub read_dir_plus_fits_by : (r : ReadDirPlusOk) → post_op_attr.Fits r.attributes → verifier.Fits r.verifier
+    → All dir_entry_plus.Fits r.entries → read_dir_plus_ok.Fits r
 unfolding read_dir_plus_ok entries
 read_dir_plus_fits_by r attributes verifier entries =
     record {

@@ -3,7 +3,9 @@ use Rattle.std.proofs.Common.{◌≡◌, ℕ, ◌+◌, ◌≤◌, Bool, true, fa
 use Rattle.xdr_grammar.specs.Items.{word}
 use Rattle.xdr_grammar.specs.Enumerations.{enumeration}
 use Rattle.nfs3_types.specs.declared.body.Body.{Body}
-use Rattle.nfs3_types.specs.declared.body.Body.TheVariants.{Null, GetAttr, SetAttr, Lookup, Access, ReadLink, Read, Write, Create, Mkdir, Symlink, Remove, Rmdir, Rename, Link, ReadDir, ReadDirPlus, FsStat, FsInfo, PathConf, Commit, Nothing}
+use Rattle.nfs3_types.specs.declared.body.Body.TheVariants.{Null, GetAttr, SetAttr, Lookup, Access, ReadLink, Read, Write, Create}
+use Rattle.nfs3_types.specs.declared.body.Body.TheVariants.{Mkdir, Symlink, Remove, Rmdir, Rename, Link, ReadDir, ReadDirPlus}
+use Rattle.nfs3_types.specs.declared.body.Body.TheVariants.{FsStat, FsInfo, PathConf, Commit, Nothing}
 use Rattle.nfs3_types.specs.declared.procedure.Procedure.{Procedure}
 use Rattle.nfs3_types.specs.declared.reply.Reply.{Reply}
 use Rattle.nfs3_types.specs.declared.status.Status.TheVariants.{Ok as StatusOk}
@@ -26,7 +28,8 @@ status_fits = record { first = record { fits = omega arith; passes = refl }; sec
 
 -- the result of a procedure that has a status, by its number
 result_named : (p : Procedure) → has_status p ≡ true → result_of (procedure_number p) ≡ result_with_status p
-result_named p has = with_status (procedure_number p) (ap has_status (procedure_at-number p) ∙ has) ∙ ap result_with_status (procedure_at-number p)
+result_named p has = with_status (procedure_number p) (ap has_status (procedure_at-number p) ∙ has)
+    ∙ ap result_with_status (procedure_at-number p)
 
 ok_fits : (p : Procedure) (b : Body) → (ok_body p).Fits b → (result_with_status p).Fits (Success b)
 unfolding result_with_status
@@ -42,7 +45,8 @@ record IsSaid (n : ℕ) (b : Body) : Type 0 where
   short : (result_of n).size (Success b) ≤ 43802
   fits : (ok_body (said_by b)).Fits b → (result_of n).Fits (Success b)
 
-said : (b : Body) → has_status (said_by b) ≡ true → procedure_in b ≤ 21 → (ok_body (said_by b)).size b ≤ 43798 → IsSaid (procedure_in b) b
+said : (b : Body) → has_status (said_by b) ≡ true → procedure_in b ≤ 21 → (ok_body (said_by b)).size b ≤ 43798
+    → IsSaid (procedure_in b) b
 said b has last short =
     let is = result_named (said_by b) has in
     record {
@@ -84,7 +88,8 @@ said_body (Commit ok) w = said (Commit ok) refl (omega arith) (body_small (Commi
 said_ok : (r : Reply) → IsBodyOf r.procedure r.body → IsSaid r.procedure r.body
 said_ok r shape = rw shape.is (said_body r.body shape.within)
 
-spelled_ok : (r : Reply) → is_ok r.status ≡ true → IsBodyOf r.procedure r.body → (ok_body (said_by r.body)).Fits r.body → IsSpelled r
+spelled_ok : (r : Reply) → is_ok r.status ≡ true → IsBodyOf r.procedure r.body → (ok_body (said_by r.body)).Fits r.body
+    → IsSpelled r
 spelled_ok r ok shape fits =
     let s = said_ok r shape in
     record { procedure_is = s.last; nothing = λ e. absurd cc; fits = rw ok (s.fits fits); short = rw ok (omega (arith, s.short)) }
@@ -95,9 +100,16 @@ failed_so r failed shape = fails_so r.procedure r.status (number_has r.procedure
 spelled_failed : (r : Reply) → is_ok r.status ≡ false → IsFailure r.procedure r.body → IsSpelled r
 spelled_failed r failed shape =
     let so = failed_so r failed shape in
-    record { procedure_is = shape.status.last; nothing = λ _. shape.nothing; fits = rw failed so.fits; short = rw failed (omega (arith, so.short)) }
+    record {
+      procedure_is = shape.status.last;
+      nothing = λ _. shape.nothing;
+      fits = rw failed so.fits;
+      short =
+          rw failed (omega (arith, so.short));
+    }
 
-by_status : (r : Reply) (ok : Bool) → is_ok r.status ≡ ok → Says ok r.procedure r.body → (is_ok r.status ≡ true → (ok_body (said_by r.body)).Fits r.body) → IsSpelled r
+by_status : (r : Reply) (ok : Bool) → is_ok r.status ≡ ok → Says ok r.procedure r.body
+    → (is_ok r.status ≡ true → (ok_body (said_by r.body)).Fits r.body) → IsSpelled r
 by_status r true e shape fits = spelled_ok r e shape (fits e)
 by_status r false e shape fits = spelled_failed r e shape
 
@@ -106,7 +118,8 @@ spelled_by r shape fits = by_status r (is_ok r.status) refl shape fits
 
 -- ---- how long it is
 
-short_by : (r : Reply) (ok : Bool) → is_ok r.status ≡ ok → Says ok r.procedure r.body → (result_of r.procedure).size (outcome_of r) ≤ 44000
+short_by : (r : Reply) (ok : Bool) → is_ok r.status ≡ ok → Says ok r.procedure r.body
+    → (result_of r.procedure).size (outcome_of r) ≤ 44000
 short_by r true e shape = let s = said_ok r shape in rw e (omega (arith, s.short))
 short_by r false e shape = let so = failed_so r e shape in rw e (omega (arith, so.short))
 

@@ -12,13 +12,17 @@ use Rattle.nfs3_types.specs.declared.attributes.Wcc.{Wcc}
 use Rattle.nfs3_types.specs.declared.body.DirEntry.{DirEntry}
 use Rattle.nfs3_types.specs.declared.body.DirEntryPlus.{DirEntryPlus}
 use Rattle.nfs3_types.specs.declared.body.Body.{Body}
-use Rattle.nfs3_types.specs.declared.body.Body.TheVariants.{Null, GetAttr, SetAttr, Lookup, Access, ReadLink, Read, Write, Create, Mkdir, Symlink, Remove, Rmdir, Rename, Link, ReadDir, ReadDirPlus, FsStat, FsInfo, PathConf, Commit, Nothing}
+use Rattle.nfs3_types.specs.declared.body.Body.TheVariants.{Null, GetAttr, SetAttr, Lookup, Access, ReadLink, Read, Write, Create}
+use Rattle.nfs3_types.specs.declared.body.Body.TheVariants.{Mkdir, Symlink, Remove, Rmdir, Rename, Link, ReadDir, ReadDirPlus}
+use Rattle.nfs3_types.specs.declared.body.Body.TheVariants.{FsStat, FsInfo, PathConf, Commit, Nothing}
 use Rattle.nfs3_types.specs.FileTypes.{file_type}
 use Rattle.nfs3_types.specs.Stability.{stable_how}
 use Rattle.nfs3_types.specs.Handles.{file_handle, post_op_handle}
 use Rattle.nfs3_types.specs.Attributes.{time, spec_data, fattr, post_op_attr, wcc_attr, pre_op_attr, wcc_data}
 use Rattle.nfs3_types.specs.Calls.{text, verifier}
-use Rattle.nfs3_types.specs.Replies.{lookup_ok, access_ok, read_link_ok, read_ok, write_ok, create_ok, rename_ok, link_ok, dir_entry, dir_entry_plus, read_dir_ok, read_dir_plus_ok, fs_stat_ok, fs_info_ok, path_conf_ok, commit_ok, ok_body, said_by}
+use Rattle.nfs3_types.specs.Replies.{lookup_ok, access_ok, read_link_ok, read_ok, write_ok, create_ok, rename_ok, link_ok}
+use Rattle.nfs3_types.specs.Replies.{dir_entry, dir_entry_plus, read_dir_ok, read_dir_plus_ok, fs_stat_ok, fs_info_ok}
+use Rattle.nfs3_types.specs.Replies.{path_conf_ok, commit_ok, ok_body, said_by}
 use Rattle.nfs3_fits.specs.Shape.{IsHandle, AreShort, AreShortPlus, IsWithin}
 
 -- ---- items
@@ -64,24 +68,37 @@ entry_small : (e : DirEntry) → 3 * (truth.size true + dir_entry.size e) ≤ 4 
 unfolding dir_entry hyper truth word
 entry_small e = omega (arith, text_small e.name)
 
-entry_plus_small : (e : DirEntryPlus) → IfSome e.object IsHandle → 3 * (truth.size true + dir_entry_plus.size e) ≤ 4 * (144 + length e.name)
+entry_plus_small : (e : DirEntryPlus) → IfSome e.object IsHandle → 3 * (truth.size true + dir_entry_plus.size e) ≤ 4 *
+    (144 + length e.name)
 unfolding dir_entry_plus hyper truth word
 entry_plus_small e h = omega (arith, text_small e.name, post_small e.attributes, post_handle_small e.object h)
 
 entries_small : (es : List DirEntry) → AreShort es → (entries dir_entry).size es ≤ 43694
 unfolding entries truth word
 entries_small es h =
-    omega (arith, h, four_thirds (λ e. truth.size true + dir_entry.size e) (λ e. 24 + length e.name) es 0 0 (λ k d lt. entry_small (slice_index_or es k d)) (omega arith))
+    omega (
+      arith,
+      h,
+      four_thirds (λ e. truth.size true + dir_entry.size e) (λ e. 24 + length e.name) es 0 0
+          (λ k d lt. entry_small (slice_index_or es k d)) (omega arith),
+    )
 
 entries_plus_small : (es : List DirEntryPlus) → AreShortPlus es → (entries dir_entry_plus).size es ≤ 43694
 unfolding entries truth word
 entries_plus_small es h =
-    omega (arith, h.short, four_thirds (λ e. truth.size true + dir_entry_plus.size e) (λ e. 144 + length e.name) es 0 0 (λ k d lt. entry_plus_small (slice_index_or es k d) (h.handles k d lt)) (omega arith))
+    omega (
+      arith,
+      h.short,
+      four_thirds (λ e. truth.size true + dir_entry_plus.size e) (λ e. 144 + length e.name) es 0 0
+          (λ k d lt. entry_plus_small (slice_index_or es k d) (h.handles k d lt)) (omega arith),
+    )
 
 -- ---- bodies
 
 pub body_small : (b : Body) → IsWithin b → (ok_body (said_by b)).size b ≤ 43798
-unfolding ok_body fattr file_type spec_data lookup_ok access_ok read_link_ok read_ok write_ok create_ok rename_ok link_ok read_dir_ok read_dir_plus_ok fs_stat_ok fs_info_ok path_conf_ok commit_ok verifier fixed stable_how enumeration time word hyper truth
+unfolding ok_body fattr file_type spec_data lookup_ok access_ok read_link_ok read_ok write_ok create_ok rename_ok link_ok
+    read_dir_ok read_dir_plus_ok fs_stat_ok fs_info_ok path_conf_ok commit_ok verifier fixed stable_how enumeration time word
+    hyper truth
 body_small Null w = omega arith
 body_small (GetAttr ok) w = omega arith
 body_small (SetAttr ok) w = omega (arith, wcc_small ok)

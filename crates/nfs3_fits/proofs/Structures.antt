@@ -32,8 +32,10 @@ unfolding file_type enumeration word
 file_type_fits Reg = record { first = record { fits = omega arith; passes = refl }; second = refl }
 file_type_fits _ = record { first = record { fits = omega arith; passes = refl }; second = refl }
 
-pub fattr_fits_by : (a : Fattr) → a.mode < 2 ^ 32 → a.nlink < 2 ^ 32 → a.uid < 2 ^ 32 → a.gid < 2 ^ 32 → a.size < 2 ^ 64 → a.used < 2 ^ 64
-    → spec_data.Fits a.rdev → a.fsid < 2 ^ 64 → a.fileid < 2 ^ 64 → time.Fits a.atime → time.Fits a.mtime → time.Fits a.ctime → fattr.Fits a
+pub fattr_fits_by : (a : Fattr) → a.mode < 2 ^ 32 → a.nlink < 2 ^ 32 → a.uid < 2 ^ 32 → a.gid < 2 ^ 32 → a.size < 2 ^ 64
+    → a.used < 2 ^ 64
+    → spec_data.Fits a.rdev → a.fsid < 2 ^ 64 → a.fileid < 2 ^ 64 → time.Fits a.atime → time.Fits a.mtime → time.Fits a.ctime
+    → fattr.Fits a
 unfolding fattr
 fattr_fits_by a mode nlink uid gid size used rdev fsid fileid atime mtime ctime =
     record {
@@ -96,7 +98,11 @@ post_none = none_fits fattr
 
 pub wcc_attr_fits_by : (w : WccAttr) → w.size < 2 ^ 64 → time.Fits w.mtime → time.Fits w.ctime → wcc_attr.Fits w
 unfolding wcc_attr
-wcc_attr_fits_by w size mtime ctime = record { first = hyper_fits w.size size; second = record { first = mtime; second = record { first = ctime; second = refl } } }
+wcc_attr_fits_by w size mtime ctime = record {
+  first = hyper_fits w.size size;
+  second =
+      record { first = mtime; second = record { first = ctime; second = refl } };
+}
 
 pub pre_some : (w : WccAttr) → wcc_attr.Fits w → pre_op_attr.Fits (Some w)
 unfolding pre_op_attr

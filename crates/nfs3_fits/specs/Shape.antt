@@ -4,7 +4,8 @@ use Rattle.nfs3_types.specs.declared.body.DirEntry.{DirEntry}
 use Rattle.nfs3_types.specs.declared.body.DirEntryPlus.{DirEntryPlus}
 use Rattle.nfs3_types.specs.declared.body.CreateOk.{CreateOk}
 use Rattle.nfs3_types.specs.declared.body.Body.{Body}
-use Rattle.nfs3_types.specs.declared.body.Body.TheVariants.{Lookup, ReadLink, Read, Create, Mkdir, Symlink, ReadDir, ReadDirPlus, Nothing}
+use Rattle.nfs3_types.specs.declared.body.Body.TheVariants.{Lookup, ReadLink, Read, Create, Mkdir, Symlink, ReadDir, ReadDirPlus}
+use Rattle.nfs3_types.specs.declared.body.Body.TheVariants.{Nothing}
 use Rattle.nfs3_types.specs.declared.reply.Reply.{Reply}
 use Rattle.nfs3_types.specs.Replies.{is_ok}
 use Rattle.nfs3_res.specs.Spelled.{procedure_in}

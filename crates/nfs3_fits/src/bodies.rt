@@ -1,7 +1,8 @@
 //! What results of status OK say has a spelling.
 
 ghost use Rattle.std.specs.Prelude.{◌≤◌, length};
-ghost use Rattle.nfs3_types.specs.Replies.{lookup_ok, access_ok, read_link_ok, read_ok, write_ok, create_ok, rename_ok, link_ok, fs_stat_ok, fs_info_ok, path_conf_ok, commit_ok};
+ghost use Rattle.nfs3_types.specs.Replies.{lookup_ok, access_ok, read_link_ok, read_ok, write_ok, create_ok, rename_ok, link_ok};
+ghost use Rattle.nfs3_types.specs.Replies.{fs_stat_ok, fs_info_ok, path_conf_ok, commit_ok};
 ghost use Rattle.nfs3_fits.specs.Shape.{IsHandle, HasHandle};
 
 use crate::attributes::{post_op_attr_fits, time_fits, wcc_fits};

@@ -1,7 +1,8 @@
 //! Writing attributes.
 
 ghost use Rattle.xdr_grammar.specs.Writing.{Puts};
-ghost use Rattle.nfs3_types.specs.Attributes.{fattr, post_op_attr, optional_word, optional_hyper, optional_time, set_time, sattr, wcc_attr, pre_op_attr, wcc_data};
+ghost use Rattle.nfs3_types.specs.Attributes.{fattr, post_op_attr, optional_word, optional_hyper, optional_time, set_time, sattr};
+ghost use Rattle.nfs3_types.specs.Attributes.{wcc_attr, pre_op_attr, wcc_data};
 
 use crate::put::{put_file_type, put_spec_data, put_time};
 use nfs3_types::{Fattr, Moment, NoMemory, Sattr, SetTime, Wcc, WccAttr};

@@ -1,7 +1,8 @@
 //! Reading attributes.
 
 ghost use Rattle.xdr_grammar.specs.Reading.{Gives};
-ghost use Rattle.nfs3_types.specs.Attributes.{fattr, post_op_attr, optional_word, optional_hyper, optional_time, set_time, sattr, wcc_attr, pre_op_attr, wcc_data};
+ghost use Rattle.nfs3_types.specs.Attributes.{fattr, post_op_attr, optional_word, optional_hyper, optional_time, set_time, sattr};
+ghost use Rattle.nfs3_types.specs.Attributes.{wcc_attr, pre_op_attr, wcc_data};
 
 use crate::read::{read_file_type, read_spec_data, read_time};
 use nfs3_types::{Fattr, Moment, Sattr, SetTime, Wcc, WccAttr};

@@ -2,7 +2,8 @@
 
 ghost use Rattle.std.specs.Prelude.{◌≡◌, ◌+◌, ◌^◌, ◌<◌, ◌≤◌, length, IfSome};
 ghost use Rattle.nfs3_types.specs.Handles.{file_handle, post_op_handle};
-ghost use Rattle.nfs3_types.specs.Attributes.{post_op_attr, optional_time, optional_word, optional_hyper, set_time, sattr, pre_op_attr, wcc_data};
+ghost use Rattle.nfs3_types.specs.Attributes.{post_op_attr, optional_time, optional_word, optional_hyper, set_time, sattr};
+ghost use Rattle.nfs3_types.specs.Attributes.{pre_op_attr, wcc_data};
 ghost use Rattle.nfs3_types.specs.Calls.{text as text_grammar};
 
 use nfs3_types::{Fattr, Moment, Sattr, SetTime, Text, Wcc, WccAttr};

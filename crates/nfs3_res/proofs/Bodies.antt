@@ -15,7 +15,8 @@ use Rattle.nfs3_types.specs.declared.status.Status.TheVariants.{Ok as StatusOk}
 use Rattle.nfs3_types.specs.Statuses.{status}
 use Rattle.nfs3_types.specs.Procedures.{procedure_at, has_status}
 use Rattle.nfs3_types.specs.Replies.Outcome.{Success, Failure}
-use Rattle.nfs3_types.specs.Replies.{Outcome, Refusal, telling, refusal, nothing_in, nothing_told, ok_body, said_by, is_ok, result_with_status, result, result_of, outcome_of}
+use Rattle.nfs3_types.specs.Replies.{Outcome, Refusal, telling, refusal, nothing_in, nothing_told, ok_body, said_by, is_ok}
+use Rattle.nfs3_types.specs.Replies.{result_with_status, result, result_of, outcome_of}
 use Rattle.nfs3_res.specs.Spelled.{IsSpelled}
 
 -- a body that is said by a procedure is of that procedure
@@ -79,7 +80,8 @@ body_fits : (p : Procedure) (b : Body) → (result_with_status p).Fits (Success 
 unfolding result_with_status
 body_fits p b f = subst (ok_body p).Fits (same_body f.second.value b (sym f.second.made)) f.second.fits
 
-success_text : (p : Procedure) (b : Body) → (result_with_status p).spelling (Success b) ≡ status.spelling StatusOk ++ (ok_body p).spelling b
+success_text : (p : Procedure) (b : Body) → (result_with_status p).spelling (Success b) ≡ status.spelling StatusOk
+    ++ (ok_body p).spelling b
 unfolding result_with_status
 success_text p b = refl
 
@@ -87,24 +89,30 @@ success_size : (p : Procedure) (b : Body) → (result_with_status p).size (Succe
 unfolding result_with_status
 success_size p b = refl
 
-failure_text : (p : Procedure) (s : Status) (w : Refusal) → is_ok s ≡ false → (result_with_status p).spelling (Failure s w) ≡ status.spelling s ++ (refusal p).spelling w
+failure_text : (p : Procedure) (s : Status) (w : Refusal) → is_ok s ≡ false
+    → (result_with_status p).spelling (Failure s w) ≡ status.spelling s ++ (refusal p).spelling w
 unfolding result_with_status
 failure_text p s w h = rw h refl
 
-pub failure_size : (p : Procedure) (s : Status) (w : Refusal) → is_ok s ≡ false → (result_with_status p).size (Failure s w) ≡ status.size s + (refusal p).size w
+pub failure_size : (p : Procedure) (s : Status) (w : Refusal) → is_ok s ≡ false
+    → (result_with_status p).size (Failure s w) ≡ status.size s + (refusal p).size w
 unfolding result_with_status
 failure_size p s w h = rw h refl
 
 -- the grammar of what a reply of status OK says
-said_fits : (r : Reply) → IsSpelled r → has_status (procedure_at r.procedure) ≡ true → r.status ≡ StatusOk → (ok_body (procedure_at r.procedure)).Fits r.body
+said_fits : (r : Reply) → IsSpelled r → has_status (procedure_at r.procedure) ≡ true → r.status ≡ StatusOk
+    → (ok_body (procedure_at r.procedure)).Fits r.body
 said_fits r spelled has h =
     body_fits (procedure_at r.procedure) r.body
-    (subst (λ (g : Grammar Outcome). g.Fits (Success r.body)) (with_status r.procedure has) (subst (result_of r.procedure).Fits (is_success r h) spelled.fits))
+    (subst (λ (g : Grammar Outcome). g.Fits (Success r.body)) (with_status r.procedure has)
+    (subst (result_of r.procedure).Fits (is_success r h) spelled.fits))
 
-is_of : (r : Reply) → IsSpelled r → has_status (procedure_at r.procedure) ≡ true → r.status ≡ StatusOk → procedure_at r.procedure ≡ said_by r.body
+is_of : (r : Reply) → IsSpelled r → has_status (procedure_at r.procedure) ≡ true → r.status ≡ StatusOk
+    → procedure_at r.procedure ≡ said_by r.body
 is_of r spelled has h = fits_is (procedure_at r.procedure) r.body (said_fits r spelled has h)
 
-pub success_fits : (r : Reply) → IsSpelled r → has_status (procedure_at r.procedure) ≡ true → is_ok r.status ≡ true → (ok_body (said_by r.body)).Fits r.body
+pub success_fits : (r : Reply) → IsSpelled r → has_status (procedure_at r.procedure) ≡ true → is_ok r.status ≡ true
+    → (ok_body (said_by r.body)).Fits r.body
 success_fits r spelled has ok =
     let h = ok_status r.status ok in
     subst (λ (p : Procedure). (ok_body p).Fits r.body) (is_of r spelled has h) (said_fits r spelled has h)
@@ -115,10 +123,12 @@ success_parts r spelled has ok =
     let h = ok_status r.status ok in
     let p = procedure_at r.procedure in
     record {
-      text = ap (λ (g : Grammar Outcome). g.spelling (outcome_of r)) (with_status r.procedure has) ∙ ap (result_with_status p).spelling (is_success r h)
+      text = ap (λ (g : Grammar Outcome). g.spelling (outcome_of r)) (with_status r.procedure has)
+          ∙ ap (result_with_status p).spelling (is_success r h)
           ∙ success_text p r.body ∙ ap (λ (s : Status). status.spelling s ++ (ok_body p).spelling r.body) (sym h)
           ∙ ap (λ (q : Procedure). status.spelling r.status ++ (ok_body q).spelling r.body) (is_of r spelled has h);
-      size = ap (λ (g : Grammar Outcome). g.size (outcome_of r)) (with_status r.procedure has) ∙ ap (result_with_status p).size (is_success r h)
+      size = ap (λ (g : Grammar Outcome). g.size (outcome_of r)) (with_status r.procedure has)
+          ∙ ap (result_with_status p).size (is_success r h)
           ∙ success_size p r.body ∙ ap (λ (s : Status). status.size s + (ok_body p).size r.body) (sym h)
           ∙ ap (λ (q : Procedure). status.size r.status + (ok_body q).size r.body) (is_of r spelled has h);
     }
@@ -128,13 +138,16 @@ abbrev pub silence : Procedure → Refusal
 silence p = nothing_in (telling p)
 
 pub failure_parts : (r : Reply) → has_status (procedure_at r.procedure) ≡ true → is_ok r.status ≡ false
-    → Parts r ((refusal (procedure_at r.procedure)).spelling (silence (procedure_at r.procedure))) ((refusal (procedure_at r.procedure)).size (silence (procedure_at r.procedure)))
+    → Parts r ((refusal (procedure_at r.procedure)).spelling (silence (procedure_at r.procedure)))
+    ((refusal (procedure_at r.procedure)).size (silence (procedure_at r.procedure)))
 failure_parts r has h =
     let p = procedure_at r.procedure in
     record {
-      text = ap (λ (g : Grammar Outcome). g.spelling (outcome_of r)) (with_status r.procedure has) ∙ ap (result_with_status p).spelling (is_failure r h)
+      text = ap (λ (g : Grammar Outcome). g.spelling (outcome_of r)) (with_status r.procedure has)
+          ∙ ap (result_with_status p).spelling (is_failure r h)
           ∙ failure_text p r.status (silence p) h;
-      size = ap (λ (g : Grammar Outcome). g.size (outcome_of r)) (with_status r.procedure has) ∙ ap (result_with_status p).size (is_failure r h)
+      size = ap (λ (g : Grammar Outcome). g.size (outcome_of r)) (with_status r.procedure has)
+          ∙ ap (result_with_status p).size (is_failure r h)
           ∙ failure_size p r.status (silence p) h;
     }
 
@@ -146,5 +159,7 @@ some_of a = Some a
 same_some : {A : Type 0} (a b : A) → some_of a ≡ some_of b → a ≡ b
 same_some a b e = cc
 
-pub in_case_fits : {A B : Type 0} (make : B → A) (content : A → Option B) (g : Grammar B) (b : B) → ((x : B) → content (make x) ≡ Some x) → FitsCase make g (make b) → g.Fits b
-in_case_fits make content g b back f = subst g.Fits (same_some f.value b (sym (back f.value) ∙ ap content (sym f.made) ∙ back b)) f.fits
+pub in_case_fits : {A B : Type 0} (make : B → A) (content : A → Option B) (g : Grammar B) (b : B)
+    → ((x : B) → content (make x) ≡ Some x) → FitsCase make g (make b) → g.Fits b
+in_case_fits make content g b back f = subst g.Fits (same_some f.value b (sym (back f.value) ∙ ap content (sym f.made) ∙ back b))
+    f.fits

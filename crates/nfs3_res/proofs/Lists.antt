@@ -1,5 +1,6 @@
 -- The steps of the loops over entries.
-use Rattle.std.proofs.Common.{◌≡◌, ℕ, ◌+◌, ◌≤◌, true, false, List, [], ◌∷◌, ◌++◌, length, take, Result, Ok, Err, sym, ap, ◌∙◌, length-append, arith}
+use Rattle.std.proofs.Common.{◌≡◌, ℕ, ◌+◌, ◌≤◌, true, false, List, [], ◌∷◌, ◌++◌, length, take, Result, Ok, Err, sym, ap, ◌∙◌}
+use Rattle.std.proofs.Common.{length-append, arith}
 use Rattle.std.specs.Prelude.{Vec, vec_len, vec_capacity}
 use Rattle.std.specs.List.{flat_map, sum_by}
 use Rattle.xdr_grammar.specs.declared.fault.XdrFault.{XdrFault}
@@ -15,25 +16,34 @@ use Rattle.nfs3_res.specs.Reading.{Fails}
 
 -- ---- reading
 
-pub read_more : {A : Type 0} (g : Grammar A) → Laws g → (front : List A) (bytes after others : List ℕ) (x : A) (total : Result (List A × List ℕ) XdrFault)
-    → truth.read bytes ≡ Ok (true, after) → g.read after ≡ Ok (x, others) → with_front front ((entries g).read bytes) ≡ total → with_front (front ++ x ∷ []) ((entries g).read others) ≡ total
+pub read_more : {A : Type 0} (g : Grammar A) → Laws g → (front : List A) (bytes after others : List ℕ) (x : A)
+    (total : Result (List A × List ℕ) XdrFault)
+    → truth.read bytes ≡ Ok (true, after) → g.read after ≡ Ok (x, others) → with_front front ((entries g).read bytes) ≡ total
+    → with_front (front ++ x ∷ []) ((entries g).read others) ≡ total
 read_more g laws front bytes after others x total t e so_far = sym (entries_more g laws front bytes after others x t e) ∙ so_far
 
-pub read_ends : {A : Type 0} (g : Grammar A) → Laws g → (front : List A) (bytes after : List ℕ) (total : Result (List A × List ℕ) XdrFault)
+pub read_ends : {A : Type 0} (g : Grammar A) → Laws g → (front : List A) (bytes after : List ℕ)
+    (total : Result (List A × List ℕ) XdrFault)
     → truth.read bytes ≡ Ok (false, after) → with_front front ((entries g).read bytes) ≡ total → total ≡ Ok (front, after)
 read_ends g laws front bytes after total t so_far = sym so_far ∙ entries_end g laws front bytes after t
 
-pub mark_fails : {A : Type 0} (g : Grammar A) → Laws g → (front : List A) (bytes : List ℕ) (fault : XdrFault) (total : Result (List A × List ℕ) XdrFault)
+pub mark_fails : {A : Type 0} (g : Grammar A) → Laws g → (front : List A) (bytes : List ℕ) (fault : XdrFault)
+    (total : Result (List A × List ℕ) XdrFault)
     → truth.read bytes ≡ Err fault → with_front front ((entries g).read bytes) ≡ total → total ≡ Err fault
 mark_fails g laws front bytes fault total t so_far = sym so_far ∙ entries_mark_fault g laws front bytes fault t
 
-pub entry_fails : {A : Type 0} (g : Grammar A) → Laws g → (front : List A) (bytes after : List ℕ) (e : ResFault) (total : Result (List A × List ℕ) XdrFault)
-    → truth.read bytes ≡ Ok (true, after) → Fails (g.read after) e → with_front front ((entries g).read bytes) ≡ total → Fails total e
-entry_fails g laws front bytes after (faults.Bad fault) total t e so_far = sym so_far ∙ entries_entry_fault g laws front bytes after fault t e
+pub entry_fails : {A : Type 0} (g : Grammar A) → Laws g → (front : List A) (bytes after : List ℕ) (e : ResFault)
+    (total : Result (List A × List ℕ) XdrFault)
+    → truth.read bytes ≡ Ok (true, after) → Fails (g.read after) e → with_front front ((entries g).read bytes) ≡ total
+    → Fails total e
+entry_fails g laws front bytes after (faults.Bad fault) total t e so_far = sym so_far
+    ∙ entries_entry_fault g laws front bytes after fault t e
 entry_fails g laws front bytes after faults.NoMemory total t e so_far = tt
 
-pub entry_shorter : {A : Type 0} (g : Grammar A) → Laws g → (after others : List ℕ) (x : A) → g.read after ≡ Ok (x, others) → length others ≤ length after
-entry_shorter g laws after others x e = let f = laws.found after x others e in omega (arith, ap length f.parts, length-append f.front others)
+pub entry_shorter : {A : Type 0} (g : Grammar A) → Laws g → (after others : List ℕ) (x : A) → g.read after ≡ Ok (x, others)
+    → length others ≤ length after
+entry_shorter g laws after others x e = let f = laws.found after x others e in
+    omega (arith, ap length f.parts, length-append f.front others)
 
 -- ---- writing
 

@@ -14,7 +14,8 @@ use Rattle.nfs3_types.specs.Procedures.{procedure_number, procedure_at, has_stat
 use Rattle.nfs3_types.specs.Attributes.{post_op_attr, wcc_data, wcc_attr, fattr, pre_op_attr}
 use Rattle.nfs3_types.specs.Replies.Outcome.{Failure}
 use Rattle.nfs3_types.specs.Replies.Telling.{Nought, Attributes, BeforeAndAfter, OfRename, OfLink}
-use Rattle.nfs3_types.specs.Replies.{rename_ok, link_ok, absent, Telling, telling, told, nothing_in, nothing_told, is_ok, result_with_status, result_of, outcome_of}
+use Rattle.nfs3_types.specs.Replies.{rename_ok, link_ok, absent, Telling, telling, told, nothing_in, nothing_told, is_ok}
+use Rattle.nfs3_types.specs.Replies.{result_with_status, result_of, outcome_of}
 use Rattle.nfs3_types.proofs.ProcedureLaws.{number-procedure_at}
 use Rattle.nfs3_res.specs.Spelled.{IsSpelled}
 use Rattle.nfs3_res.proofs.Bodies.{ok_status, status_long, with_status, failure_size, silence}
@@ -33,7 +34,11 @@ absent_fits : wcc_data.Fits (record { before = None; after = None })
 unfolding wcc_data
 absent_fits = record { first = absent_pre_fits; second = record { first = absent_post_fits; second = refl } }
 
-rename_fits : rename_ok.Fits (record { from = record { before = None; after = None }; to = record { before = None; after = None } })
+rename_fits : rename_ok.Fits (record {
+  from = record { before = None; after = None };
+  to =
+      record { before = None; after = None };
+})
 unfolding rename_ok
 rename_fits = record { first = absent_fits; second = record { first = absent_fits; second = refl } }
 
@@ -78,12 +83,21 @@ pub record FailsSo (n : ℕ) (s : Status) : Type 0 where
 
 with_status_fits : (p : Procedure) (s : Status) → is_ok s ≡ false → (result_with_status p).Fits (Failure s (silence p))
 unfolding result_with_status
-with_status_fits p s failed = record { first = status_fits s; second = rw failed (record { value = silence p; made = refl; fits = nothing_fits (telling p) }) }
+with_status_fits p s failed = record {
+  first = status_fits s;
+  second =
+      rw failed (record { value = silence p; made = refl; fits = nothing_fits (telling p) });
+}
 
 pub fails_so : (n : ℕ) (s : Status) → has_status (procedure_at n) ≡ true → is_ok s ≡ false → FailsSo n s
 fails_so n s has failed = record {
   fits = rw (with_status n has) (with_status_fits (procedure_at n) s failed);
-  short = rw (with_status n has) (omega (arith, failure_size (procedure_at n) s (silence (procedure_at n)) failed, status_long s, nothing_short (telling (procedure_at n))));
+  short = rw (with_status n has) (omega (
+    arith,
+    failure_size (procedure_at n) s (silence (procedure_at n)) failed,
+    status_long s,
+    nothing_short (telling (procedure_at n)),
+  ));
 }
 
 -- each procedure but that of number 0 has a status
@@ -104,6 +118,12 @@ is_bare n s first last other =
     let failed : is_ok s ≡ false = is_failed s other (is_ok s) refl in
     let so = fails_so n s (number_has n first last) failed in
     record {
-      spelled = record { procedure_is = last; nothing = λ _. refl; fits = rw failed so.fits; short = rw failed (omega (arith, so.short)) };
+      spelled = record {
+        procedure_is = last;
+        nothing = λ _. refl;
+        fits = rw failed so.fits;
+        short =
+            rw failed (omega (arith, so.short));
+      };
       short = rw failed so.short;
     }

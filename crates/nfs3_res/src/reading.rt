@@ -1,7 +1,9 @@
 //! Reading what results of status OK say.
 
 ghost use Rattle.xdr_grammar.specs.Reading.{Gives};
-ghost use Rattle.nfs3_types.specs.Replies.{lookup_ok, access_ok, read_link_ok, read_ok, write_ok, create_ok, rename_ok, link_ok, fs_stat_ok, fs_info_ok, path_conf_ok, commit_ok, read_dir_ok, read_dir_plus_ok, ok_body};
+ghost use Rattle.nfs3_types.specs.Replies.{lookup_ok, access_ok, read_link_ok, read_ok, write_ok, create_ok, rename_ok, link_ok};
+ghost use Rattle.nfs3_types.specs.Replies.{fs_stat_ok, fs_info_ok, path_conf_ok, commit_ok, read_dir_ok, read_dir_plus_ok};
+ghost use Rattle.nfs3_types.specs.Replies.{ok_body};
 ghost use Rattle.nfs3_res.specs.Reading.{GivesOwn};
 
 use crate::fault::ResFault;

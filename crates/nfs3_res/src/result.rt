@@ -101,7 +101,8 @@ fn read_whole(alloc: Global, procedure: u32, text: &[u8]) -> Result<Reply, ResFa
 pub fn read_reply(alloc: Global, procedure: u32, text: &[u8]) -> Result<Reply, ResFault>
     requires { procedure ≤ 21 }
     ensures read { IfOk result (λ reply. IsReplyOf procedure text.now reply) }
-    ensures only { (outcome : Outcome) → (result_of procedure).Spells outcome text.now → Answers (reply_of procedure outcome) result }
+    ensures only { (outcome : Outcome) → (result_of procedure).Spells outcome text.now
+        → Answers (reply_of procedure outcome) result }
     ensures writable { length text.now < 2 ^ 31 - 24 → IfOk result (λ reply. IsSpelled reply) }
     ensures bad { IfErr result (λ fault. IsFaultOf procedure text.now fault) }
 {

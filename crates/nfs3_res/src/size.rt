@@ -2,7 +2,9 @@
 
 ghost use Rattle.std.specs.Prelude.{◌≡◌, ◌-◌, ◌^◌, ◌<◌, ◌≤◌};
 ghost use Rattle.nfs3_types.specs.Attributes.{fattr};
-ghost use Rattle.nfs3_types.specs.Replies.{lookup_ok, access_ok, read_link_ok, read_ok, write_ok, create_ok, rename_ok, link_ok, fs_stat_ok, fs_info_ok, path_conf_ok, commit_ok, read_dir_ok, read_dir_plus_ok, ok_body, said_by, refusal, telling, nothing_in, result_of, outcome_of};
+ghost use Rattle.nfs3_types.specs.Replies.{lookup_ok, access_ok, read_link_ok, read_ok, write_ok, create_ok, rename_ok, link_ok};
+ghost use Rattle.nfs3_types.specs.Replies.{fs_stat_ok, fs_info_ok, path_conf_ok, commit_ok, read_dir_ok, read_dir_plus_ok};
+ghost use Rattle.nfs3_types.specs.Replies.{ok_body, said_by, refusal, telling, nothing_in, result_of, outcome_of};
 ghost use Rattle.nfs3_res.specs.Spelled.{IsSpelled};
 
 use crate::items::entries_size;

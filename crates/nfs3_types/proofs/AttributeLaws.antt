@@ -7,7 +7,8 @@ use Rattle.xdr_grammar.specs.Laws.{Laws}
 use Rattle.xdr_grammar.proofs.Rules.{grammar_laws, picked}
 use Rattle.nfs3_types.specs.declared.attributes.SetTime.TheVariants.{DontChange, ServerTime}
 use Rattle.nfs3_types.specs.FileTypes.{file_type}
-use Rattle.nfs3_types.specs.Attributes.{time, spec_data, fattr, post_op_attr, optional_word, optional_hyper, optional_time, time_how, set_time, sattr, wcc_attr, pre_op_attr, wcc_data}
+use Rattle.nfs3_types.specs.Attributes.{time, spec_data, fattr, post_op_attr, optional_word, optional_hyper, optional_time}
+use Rattle.nfs3_types.specs.Attributes.{time_how, set_time, sattr, wcc_attr, pre_op_attr, wcc_data}
 
 pub time-laws : Laws time
 unfolding time
@@ -45,7 +46,8 @@ optional_time-laws = search (grammar_laws, time-laws)
 is_two : (how : ℕ) → (how == 2) ≡ true → 2 ≡ how
 is_two how h = sym (eqb-true how 2 h)
 
-not_two : (how : ℕ) (front : List ℕ) → (pick 0 2).Spells how front → (how == 2) ≡ false → time_how (if how == 0 then DontChange else ServerTime) ≡ how
+not_two : (how : ℕ) (front : List ℕ) → (pick 0 2).Spells how front → (how == 2) ≡ false
+    → time_how (if how == 0 then DontChange else ServerTime) ≡ how
 not_two zero front s h = refl
 not_two (suc zero) front s h = refl
 not_two (suc (suc zero)) front s h = absurd cc

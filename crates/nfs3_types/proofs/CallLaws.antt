@@ -8,10 +8,15 @@ use Rattle.xdr_grammar.proofs.Rules.{grammar_laws, picked}
 use Rattle.nfs3_types.specs.declared.file_type.FileType.{FileType}
 use Rattle.nfs3_types.specs.declared.file_type.FileType.TheVariants.{Reg, Dir, Blk, Chr, Lnk, Sock, Fifo}
 use Rattle.nfs3_types.specs.declared.procedure.Procedure.{Procedure}
-use Rattle.nfs3_types.specs.declared.procedure.Procedure.TheVariants.{Null, GetAttr, SetAttr, Lookup, Access, ReadLink, Read, Write, Create, Mkdir, Symlink, Mknod, Remove, Rmdir, Rename, Link, ReadDir, ReadDirPlus, FsStat, FsInfo, PathConf, Commit}
+use Rattle.nfs3_types.specs.declared.procedure.Procedure.TheVariants.{Null, GetAttr, SetAttr, Lookup, Access, ReadLink, Read}
+use Rattle.nfs3_types.specs.declared.procedure.Procedure.TheVariants.{Write, Create, Mkdir, Symlink, Mknod, Remove, Rmdir, Rename}
+use Rattle.nfs3_types.specs.declared.procedure.Procedure.TheVariants.{Link, ReadDir, ReadDirPlus, FsStat, FsInfo, PathConf}
+use Rattle.nfs3_types.specs.declared.procedure.Procedure.TheVariants.{Commit}
 use Rattle.nfs3_types.specs.Procedures.{procedure_at}
 use Rattle.nfs3_types.specs.Stability.{stable_how}
-use Rattle.nfs3_types.specs.Calls.{what_type, of_type, text, verifier, dir_op, set_attr_args, access_args, file_range, write_args, create_how, create_args, mkdir_args, symlink_args, device_data, mknod_data, mknod_args, rename_args, link_args, read_dir_args, read_dir_plus_args, arguments, call_of}
+use Rattle.nfs3_types.specs.Calls.{what_type, of_type, text, verifier, dir_op, set_attr_args, access_args, file_range, write_args}
+use Rattle.nfs3_types.specs.Calls.{create_how, create_args, mkdir_args, symlink_args, device_data, mknod_data, mknod_args}
+use Rattle.nfs3_types.specs.Calls.{rename_args, link_args, read_dir_args, read_dir_plus_args, arguments, call_of}
 use Rattle.nfs3_types.proofs.HandleLaws.{file_handle-laws}
 use Rattle.nfs3_types.proofs.AttributeLaws.{file_type-laws, spec_data-laws, optional_time-laws, sattr-laws}
 

@@ -36,7 +36,8 @@ sum_below-le (suc n) f g le =
     let last : f n ≤ g n = le n (omega arith) in
     omega arith
 
-pub sum_below-one : (many i n : ℕ) (f g : ℕ → ℕ) → i < many → ((k : ℕ) → k < many → f k ≤ g k) → RoseBy n (f i) (g i) → RoseBy n (sum_below many f) (sum_below many g)
+pub sum_below-one : (many i n : ℕ) (f g : ℕ → ℕ) → i < many → ((k : ℕ) → k < many → f k ≤ g k) → RoseBy n (f i) (g i)
+    → RoseBy n (sum_below many f) (sum_below many g)
 sum_below-one zero i n f g h le rose = absurd (omega arith)
 sum_below-one (suc many) i n f g h le rose =
     ⊎_elim (λ (lt : i < many).
@@ -47,7 +48,8 @@ sum_below-one (suc many) i n f g h le rose =
     rose-right n (sum_below many f) _ (sum_below many g) _ rest (rw e at rose))
     (cases_lt i many)
 
-pub sum_below-all : (many : ℕ) (by f g : ℕ → ℕ) → ((k : ℕ) → k < many → RoseBy (by k) (f k) (g k)) → RoseBy (sum_below many by) (sum_below many f) (sum_below many g)
+pub sum_below-all : (many : ℕ) (by f g : ℕ → ℕ) → ((k : ℕ) → k < many → RoseBy (by k) (f k) (g k))
+    → RoseBy (sum_below many by) (sum_below many f) (sum_below many g)
 sum_below-all zero by f g rose = omega arith
 sum_below-all (suc many) by f g rose =
     rose-pair (sum_below many by) (by many) (sum_below many f) (f many) (sum_below many g) (g many)

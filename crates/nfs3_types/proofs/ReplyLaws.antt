@@ -3,12 +3,18 @@ use Rattle.std.proofs.Common.{◌≡◌, ℕ, true, refl}
 use Rattle.xdr_grammar.specs.Laws.{Laws}
 use Rattle.xdr_grammar.proofs.Rules.{grammar_laws}
 use Rattle.nfs3_types.specs.declared.procedure.Procedure.{Procedure}
-use Rattle.nfs3_types.specs.declared.procedure.Procedure.TheVariants.{Null, GetAttr, SetAttr, Lookup, Access, ReadLink, Read, Write, Create, Mkdir, Symlink, Mknod, Remove, Rmdir, Rename, Link, ReadDir, ReadDirPlus, FsStat, FsInfo, PathConf, Commit}
+use Rattle.nfs3_types.specs.declared.procedure.Procedure.TheVariants.{Null, GetAttr, SetAttr, Lookup, Access, ReadLink, Read}
+use Rattle.nfs3_types.specs.declared.procedure.Procedure.TheVariants.{Write, Create, Mkdir, Symlink, Mknod, Remove, Rmdir, Rename}
+use Rattle.nfs3_types.specs.declared.procedure.Procedure.TheVariants.{Link, ReadDir, ReadDirPlus, FsStat, FsInfo, PathConf}
+use Rattle.nfs3_types.specs.declared.procedure.Procedure.TheVariants.{Commit}
 use Rattle.nfs3_types.specs.declared.status.Status.{Status}
 use Rattle.nfs3_types.specs.declared.status.Status.TheVariants.{Ok as StatusOk}
 use Rattle.nfs3_types.specs.Procedures.{procedure_at}
 use Rattle.nfs3_types.specs.Statuses.{status}
-use Rattle.nfs3_types.specs.Replies.{lookup_ok, access_ok, read_link_ok, read_ok, write_ok, create_ok, rename_ok, link_ok, dir_entry, read_dir_ok, dir_entry_plus, read_dir_plus_ok, fs_stat_ok, fs_info_ok, path_conf_ok, commit_ok, ok_body, Telling, told, is_ok, result_with_status, result, result_of}
+use Rattle.nfs3_types.specs.Replies.{lookup_ok, access_ok, read_link_ok, read_ok, write_ok, create_ok, rename_ok, link_ok}
+use Rattle.nfs3_types.specs.Replies.{dir_entry, read_dir_ok, dir_entry_plus, read_dir_plus_ok, fs_stat_ok, fs_info_ok}
+use Rattle.nfs3_types.specs.Replies.{path_conf_ok, commit_ok, ok_body, Telling, told, is_ok, result_with_status, result}
+use Rattle.nfs3_types.specs.Replies.{result_of}
 use Rattle.nfs3_types.specs.Replies.Telling.{Nought, Attributes, BeforeAndAfter, OfRename, OfLink}
 use Rattle.nfs3_types.proofs.HandleLaws.{file_handle-laws, post_op_handle-laws}
 use Rattle.nfs3_types.proofs.AttributeLaws.{time-laws, fattr-laws, post_op_attr-laws, wcc_data-laws}

@@ -43,7 +43,22 @@ fattr = do
   atime ← time at (λ a. a.atime)
   mtime ← time at (λ a. a.mtime)
   ctime ← time at (λ a. a.ctime)
-  done (record { kind = kind; mode = mode; nlink = nlink; uid = uid; gid = gid; size = size; used = used; rdev = rdev; fsid = fsid; fileid = fileid; atime = atime; mtime = mtime; ctime = ctime })
+  done (record {
+    kind = kind;
+    mode = mode;
+    nlink = nlink;
+    uid = uid;
+    gid = gid;
+    size = size;
+    used = used;
+    rdev = rdev;
+    fsid =
+        fsid;
+    fileid = fileid;
+    atime = atime;
+    mtime = mtime;
+    ctime = ctime;
+  })
 
 -- attributes that may be absent (post_op_attr)
 unfoldable pub post_op_attr : Grammar (Option Fattr)

@@ -25,10 +25,13 @@ use Rattle.nfs3_types.specs.declared.args.CreateHow.TheVariants.{Unchecked, Guar
 use Rattle.nfs3_types.specs.declared.args.MknodData.TheVariants.{Chr, Blk, Sock, Fifo, Other}
 use Rattle.nfs3_types.specs.declared.attributes.Sattr.{Sattr}
 use Rattle.nfs3_types.specs.declared.call.CallOver.{CallOver}
-use Rattle.nfs3_types.specs.declared.call.CallOver.TheVariants.{Null, GetAttr, SetAttr, Lookup, Access, ReadLink, Read, Write, Create, Mkdir, Symlink, Mknod, Remove, Rmdir, Rename, Link, ReadDir, ReadDirPlus, FsStat, FsInfo, PathConf, Commit}
+use Rattle.nfs3_types.specs.declared.call.CallOver.TheVariants.{Null, GetAttr, SetAttr, Lookup, Access, ReadLink, Read, Write}
+use Rattle.nfs3_types.specs.declared.call.CallOver.TheVariants.{Create, Mkdir, Symlink, Mknod, Remove, Rmdir, Rename, Link}
+use Rattle.nfs3_types.specs.declared.call.CallOver.TheVariants.{ReadDir, ReadDirPlus, FsStat, FsInfo, PathConf, Commit}
 use Rattle.nfs3_types.specs.declared.file_type.FileType.{FileType}
 use Rattle.nfs3_types.specs.declared.file_type.FileType.TheVariants.{Reg, Dir, Lnk}
-use Rattle.nfs3_types.specs.declared.file_type.FileType.TheVariants.{Chr as TypeChr, Blk as TypeBlk, Sock as TypeSock, Fifo as TypeFifo}
+use Rattle.nfs3_types.specs.declared.file_type.FileType.TheVariants.{Chr as TypeChr, Blk as TypeBlk, Sock as TypeSock}
+use Rattle.nfs3_types.specs.declared.file_type.FileType.TheVariants.{Fifo as TypeFifo}
 use Rattle.nfs3_types.specs.FileTypes.{file_type}
 use Rattle.nfs3_types.specs.Procedures.{procedure_number, procedure_at}
 use Rattle.nfs3_types.specs.Stability.{stable_how}

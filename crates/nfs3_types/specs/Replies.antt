@@ -24,7 +24,9 @@ use Rattle.nfs3_types.specs.declared.body.FsInfoOk.{FsInfoOk}
 use Rattle.nfs3_types.specs.declared.body.PathConfOk.{PathConfOk}
 use Rattle.nfs3_types.specs.declared.body.CommitOk.{CommitOk}
 use Rattle.nfs3_types.specs.declared.body.Body.{Body}
-use Rattle.nfs3_types.specs.declared.body.Body.TheVariants.{Null, GetAttr, SetAttr, Lookup, Access, ReadLink, Read, Write, Create, Mkdir, Symlink, Remove, Rmdir, Rename, Link, ReadDir, ReadDirPlus, FsStat, FsInfo, PathConf, Commit, Nothing}
+use Rattle.nfs3_types.specs.declared.body.Body.TheVariants.{Null, GetAttr, SetAttr, Lookup, Access, ReadLink, Read, Write, Create}
+use Rattle.nfs3_types.specs.declared.body.Body.TheVariants.{Mkdir, Symlink, Remove, Rmdir, Rename, Link, ReadDir, ReadDirPlus}
+use Rattle.nfs3_types.specs.declared.body.Body.TheVariants.{FsStat, FsInfo, PathConf, Commit, Nothing}
 use Rattle.nfs3_types.specs.declared.procedure.Procedure.{Procedure}
 use Rattle.nfs3_types.specs.declared.procedure.Procedure.TheVariants as procedures
 use Rattle.nfs3_types.specs.declared.reply.Reply.{Reply}
@@ -148,7 +150,16 @@ fs_stat_ok = do
   ffiles ← hyper at (λ r. r.ffiles)
   afiles ← hyper at (λ r. r.afiles)
   invarsec ← word at (λ r. r.invarsec)
-  done (record { attributes = attributes; tbytes = tbytes; fbytes = fbytes; abytes = abytes; tfiles = tfiles; ffiles = ffiles; afiles = afiles; invarsec = invarsec })
+  done (record {
+    attributes = attributes;
+    tbytes = tbytes;
+    fbytes = fbytes;
+    abytes = abytes;
+    tfiles = tfiles;
+    ffiles = ffiles;
+    afiles = afiles;
+    invarsec = invarsec;
+  })
 
 -- FSINFO (3.3.19)
 unfoldable pub fs_info_ok : Grammar FsInfoOk
@@ -164,7 +175,19 @@ fs_info_ok = do
   maxfilesize ← hyper at (λ r. r.maxfilesize)
   time_delta ← time at (λ r. r.time_delta)
   properties ← word at (λ r. r.properties)
-  done (record { attributes = attributes; rtmax = rtmax; rtpref = rtpref; rtmult = rtmult; wtmax = wtmax; wtpref = wtpref; wtmult = wtmult; dtpref = dtpref; maxfilesize = maxfilesize; time_delta = time_delta; properties = properties })
+  done (record {
+    attributes = attributes;
+    rtmax = rtmax;
+    rtpref = rtpref;
+    rtmult = rtmult;
+    wtmax = wtmax;
+    wtpref = wtpref;
+    wtmult = wtmult;
+    dtpref = dtpref;
+    maxfilesize = maxfilesize;
+    time_delta = time_delta;
+    properties = properties;
+  })
 
 -- PATHCONF (3.3.20)
 unfoldable pub path_conf_ok : Grammar PathConfOk
@@ -176,7 +199,16 @@ path_conf_ok = do
   chown_restricted ← truth at (λ r. r.chown_restricted)
   case_insensitive ← truth at (λ r. r.case_insensitive)
   case_preserving ← truth at (λ r. r.case_preserving)
-  done (record { attributes = attributes; linkmax = linkmax; name_max = name_max; no_trunc = no_trunc; chown_restricted = chown_restricted; case_insensitive = case_insensitive; case_preserving = case_preserving })
+  done (record {
+    attributes = attributes;
+    linkmax = linkmax;
+    name_max = name_max;
+    no_trunc = no_trunc;
+    chown_restricted =
+        chown_restricted;
+    case_insensitive = case_insensitive;
+    case_preserving = case_preserving;
+  })
 
 -- COMMIT (3.3.21)
 unfoldable pub commit_ok : Grammar CommitOk

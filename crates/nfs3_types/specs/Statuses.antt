@@ -3,7 +3,10 @@ use Rattle.std.specs.Prelude.{ℕ, List, [], ◌∷◌}
 use Rattle.xdr_grammar.specs.Grammar.{Grammar}
 use Rattle.xdr_grammar.specs.Enumerations.{enumeration}
 use Rattle.nfs3_types.specs.declared.status.Status.{Status}
-use Rattle.nfs3_types.specs.declared.status.Status.TheVariants.{Ok, Perm, NoEnt, Io, Nxio, Acces, Exist, Xdev, NoDev, NotDir, IsDir, Inval, FBig, NoSpc, Rofs, MLink, NameTooLong, NotEmpty, DQuot, Stale, Remote, BadHandle, NotSync, BadCookie, NotSupp, TooSmall, ServerFault, BadType, Jukebox}
+use Rattle.nfs3_types.specs.declared.status.Status.TheVariants.{Ok, Perm, NoEnt, Io, Nxio, Acces, Exist, Xdev, NoDev, NotDir}
+use Rattle.nfs3_types.specs.declared.status.Status.TheVariants.{IsDir, Inval, FBig, NoSpc, Rofs, MLink, NameTooLong, NotEmpty}
+use Rattle.nfs3_types.specs.declared.status.Status.TheVariants.{DQuot, Stale, Remote, BadHandle, NotSync, BadCookie, NotSupp}
+use Rattle.nfs3_types.specs.declared.status.Status.TheVariants.{TooSmall, ServerFault, BadType, Jukebox}
 
 abbrev pub status_number : Status → ℕ
 status_number Ok = 0
@@ -37,7 +40,9 @@ status_number BadType = 10007
 status_number Jukebox = 10008
 
 abbrev pub statuses : List Status
-statuses = Ok ∷ Perm ∷ NoEnt ∷ Io ∷ Nxio ∷ Acces ∷ Exist ∷ Xdev ∷ NoDev ∷ NotDir ∷ IsDir ∷ Inval ∷ FBig ∷ NoSpc ∷ Rofs ∷ MLink ∷ NameTooLong ∷ NotEmpty ∷ DQuot ∷ Stale ∷ Remote ∷ BadHandle ∷ NotSync ∷ BadCookie ∷ NotSupp ∷ TooSmall ∷ ServerFault ∷ BadType ∷ Jukebox ∷ []
+statuses = Ok ∷ Perm ∷ NoEnt ∷ Io ∷ Nxio ∷ Acces ∷ Exist ∷ Xdev ∷ NoDev ∷ NotDir ∷ IsDir ∷ Inval ∷ FBig ∷ NoSpc ∷ Rofs ∷ MLink
+    ∷ NameTooLong ∷ NotEmpty ∷ DQuot ∷ Stale ∷ Remote ∷ BadHandle ∷ NotSync ∷ BadCookie ∷ NotSupp ∷ TooSmall ∷ ServerFault
+    ∷ BadType ∷ Jukebox ∷ []
 
 unfoldable pub status : Grammar Status
 status = enumeration Ok status_number statuses

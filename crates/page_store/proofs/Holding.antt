@@ -1,5 +1,6 @@
 -- Holds, and where each transaction has them.
-use Rattle.std.proofs.Common.{◌≡◌, ℕ, Bool, true, false, cond, List, [], ◌∷◌, ◌++◌, map, Option, Some, None, IsSome, refl, ap, sym, ◌∙◌, subst}
+use Rattle.std.proofs.Common.{◌≡◌, ℕ, Bool, true, false, cond, List, [], ◌∷◌, ◌++◌, map, Option, Some, None, IsSome, refl, ap}
+use Rattle.std.proofs.Common.{sym, ◌∙◌, subst}
 use Rattle.std.specs.Prelude.{◌==◌, ◌&&◌, ◌||◌, if◌then◌else◌}
 use Rattle.std.specs.List.{list_any}
 use Rattle.pair_types.specs.declared.slot.Tid.{Tid}
@@ -68,7 +69,8 @@ without_none tid [] h = refl
 without_none tid (hold ∷ holds) h =
     none_from (is_same hold.tid tid) (has_reader tid holds) hold (without tid holds) holds (without_none tid holds) h
 
-stays_from : (t : Tid) (b : Bool) (hold : Hold) (left holds : List Hold) → (has_reader t left ≡ true → has_reader t holds ≡ true) →
+stays_from : (t : Tid) (b : Bool) (hold : Hold) (left holds : List Hold) → (has_reader t left ≡ true → has_reader t holds ≡ true)
+    →
     has_reader t (if b then left else hold ∷ left) ≡ true → has_reader t (hold ∷ holds) ≡ true
 stays_from t true hold left holds later h = or_right (is_same hold.tid t) (has_reader t holds) (later h)
 stays_from t false hold left holds later h = left_from (is_same hold.tid t) (has_reader t left) (has_reader t holds) later h
@@ -92,13 +94,15 @@ none_left tid (hold ∷ holds) = left_by tid (is_same hold.tid tid) hold (withou
 -- ## Resolved pages
 
 -- a page on which the transaction has no hold stays as it is
-pub quiet : (tid : Tid) (commit : Bool) (w : Option WriteHold) (kept : Kept) → has_writer tid w ≡ false → has_reader tid kept.readers ≡ false →
+pub quiet : (tid : Tid) (commit : Bool) (w : Option WriteHold) (kept : Kept) → has_writer tid w ≡ false
+    → has_reader tid kept.readers ≡ false →
     resolving tid commit w kept ≡ kept
 quiet tid commit None kept writer readers = ap (λ holds. record kept { readers = holds }) (without_none tid kept.readers readers)
 quiet tid commit (Some w) kept writer readers =
     rw writer (ap (λ holds. record kept { readers = holds }) (without_none tid kept.readers readers))
 
-pub quiet_page : (tid : Tid) (commit : Bool) (kept : Kept) → has_hold tid kept ≡ false → resolving tid commit kept.writer kept ≡ kept
+pub quiet_page : (tid : Tid) (commit : Bool) (kept : Kept) → has_hold tid kept ≡ false
+    → resolving tid commit kept.writer kept ≡ kept
 quiet_page tid commit kept h =
     quiet tid commit kept.writer kept (or_false_left (has_writer tid kept.writer) (has_reader tid kept.readers) h)
     (or_false_right (has_writer tid kept.writer) (has_reader tid kept.readers) h)
@@ -109,7 +113,10 @@ pub hold_was : (t tid : Tid) (commit : Bool) (w : Option WriteHold) (kept : Kept
 hold_was t tid commit None kept is h = rw is (reader_stays t tid kept.readers (rw is at h))
 hold_was t tid commit (Some w) kept is h = by_own (is_same w.hold.tid tid) commit h
   where
-    by_own : (b commit : Bool) → has_hold t (if b then releasing tid commit w.content kept else record kept { readers = without tid kept.readers }) ≡ true →
+    by_own : (b commit : Bool) → has_hold t (if b then releasing tid commit w.content kept else record kept {
+      readers =
+          without tid kept.readers;
+    }) ≡ true →
         has_hold t kept ≡ true
     by_own true true h = or_right (has_writer t kept.writer) (has_reader t kept.readers) (reader_stays t tid kept.readers h)
     by_own true false h = or_right (has_writer t kept.writer) (has_reader t kept.readers) (reader_stays t tid kept.readers h)
@@ -126,7 +133,10 @@ no_hold tid commit None kept is = rw is (none_left tid kept.readers)
 no_hold tid commit (Some w) kept is = by_own (is_same w.hold.tid tid) refl commit
   where
     by_own : (b : Bool) → is_same w.hold.tid tid ≡ b → (commit : Bool) →
-        has_hold tid (if b then releasing tid commit w.content kept else record kept { readers = without tid kept.readers }) ≡ false
+        has_hold tid (if b then releasing tid commit w.content kept else record kept {
+          readers =
+              without tid kept.readers;
+        }) ≡ false
     by_own true own true = none_left tid kept.readers
     by_own true own false = none_left tid kept.readers
     by_own false own commit = rw (is, own) (none_left tid kept.readers)
@@ -139,10 +149,12 @@ hold_written t tid (Some page) kept = refl
 -- a hold that stands after a Prepare was there, or is the transaction's own on a page that it read
 pub hold_from : (t : Tid) (hold : Hold) (page : Option (List ℕ)) (version : Option ℕ) (kept : Kept) →
     has_hold t (holding hold page version kept) ≡ true → is_same hold.tid t ≡ false → has_hold t kept ≡ true
-hold_from t hold (Some page) version kept h other = or_right (has_writer t kept.writer) (has_reader t kept.readers) (rw other at h)
+hold_from t hold (Some page) version kept h other = or_right (has_writer t kept.writer) (has_reader t kept.readers)
+    (rw other at h)
 hold_from t hold None (Some version) kept h other = by_writer (has_writer t kept.writer) h
   where
-    by_writer : (b : Bool) → (b || (is_same hold.tid t || has_reader t kept.readers)) ≡ true → (b || has_reader t kept.readers) ≡ true
+    by_writer : (b : Bool) → (b || (is_same hold.tid t || has_reader t kept.readers)) ≡ true
+        → (b || has_reader t kept.readers) ≡ true
     by_writer true h = refl
     by_writer false h = rw other at h
 hold_from t hold None None kept h other = h

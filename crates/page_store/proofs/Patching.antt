@@ -1,5 +1,6 @@
 -- A patch makes what is kept what it is after its command.
-use Rattle.std.proofs.Common.{◌≡◌, ℕ, ◌+◌, Bool, true, false, cond, List, [], ◌∷◌, ◌++◌, map, Option, Some, None, IsSome, unwrap_or, refl, ap, sym, ◌∙◌, subst}
+use Rattle.std.proofs.Common.{◌≡◌, ℕ, ◌+◌, Bool, true, false, cond, List, [], ◌∷◌, ◌++◌, map, Option, Some, None, IsSome}
+use Rattle.std.proofs.Common.{unwrap_or, refl, ap, sym, ◌∙◌, subst}
 use Rattle.std.specs.Prelude.{◌==◌, ◌&&◌, ◌||◌, if◌then◌else◌, option_map}
 use Rattle.std.proofs.Math.Path.{fun_ext}
 use Rattle.pair_types.specs.declared.slot.Tid.{Tid}
@@ -16,7 +17,9 @@ use Rattle.page_types.specs.declared.answer.Answer.{Answer}
 use Rattle.page_types.specs.declared.answer.Answer.TheVariants as answer
 use Rattle.page_types.specs.Accesses.{is_same, read_at, written_at, AreAccesses}
 use Rattle.page_types.specs.Stores.{Kept, StoreState}
-use Rattle.page_types.specs.Obeys.{answer_of, after, after_write, after_prepare, after_decide, write_refusal, prepare_refusal, refused_write, write_answer, decided_answer, deciding, ending, has_hold, written, holding, hold_of, resolving}
+use Rattle.page_types.specs.Obeys.{answer_of, after, after_write, after_prepare, after_decide, write_refusal, prepare_refusal}
+use Rattle.page_types.specs.Obeys.{refused_write, write_answer, decided_answer, deciding, ending, has_hold, written, holding}
+use Rattle.page_types.specs.Obeys.{hold_of, resolving}
 use Rattle.page_store.specs.declared.row.Row.{Row}
 use Rattle.page_store.specs.declared.row.Change.{Change}
 use Rattle.page_store.specs.declared.party.Party.{Party}
@@ -26,11 +29,13 @@ use Rattle.page_store.specs.Keeps.{Keeps, state, patched, changed, change_in, co
 use Rattle.page_store.specs.Changes.{write_change, hold_change, end_change}
 use Rattle.page_store.specs.Steps.{under, IsStep}
 use Rattle.page_store.proofs.Tids.{equal_numbers, same_tids, equal_to_self}
-use Rattle.page_store.proofs.Holding.{or_true, or_right, or_false_left, or_false_right, among_left, among_right, among_read, quiet_page, hold_was, no_hold, hold_written, hold_from}
+use Rattle.page_store.proofs.Holding.{or_true, or_right, or_false_left, or_false_right, among_left, among_right, among_read}
+use Rattle.page_store.proofs.Holding.{quiet_page, hold_was, no_hold, hold_written, hold_from}
 
 -- ## Rows
 
-written_by : (keeps : Keeps) (tid : Tid) (w : PageWrite) (o : Option Row) (page : Option (List ℕ)) (n : ℕ) (b : Bool) → (w.number == n) ≡ b →
+written_by : (keeps : Keeps) (tid : Tid) (w : PageWrite) (o : Option Row) (page : Option (List ℕ)) (n : ℕ) (b : Bool)
+    → (w.number == n) ≡ b →
     changed o (keeps.slot n) ≡ written tid page (keeps.slot n) →
     changed (if b then Some (write_change keeps tid w).row else o) (keeps.slot n)
     ≡ written tid (if b then Some w.content else page) (keeps.slot n)
@@ -50,12 +55,14 @@ abbrev held_if : Part → ℕ → Option ℕ → Kept → Kept
 held_if part n None kept = kept
 held_if part n (Some version) kept = holding (hold_of part) (written_at part.writes n) (Some version) kept
 
-held_by : (keeps : Keeps) (part : Part) (r : PageRead) (o : Option Row) (version : Option ℕ) (n : ℕ) (b : Bool) → (r.number == n) ≡ b →
+held_by : (keeps : Keeps) (part : Part) (r : PageRead) (o : Option Row) (version : Option ℕ) (n : ℕ) (b : Bool)
+    → (r.number == n) ≡ b →
     changed o (keeps.slot n) ≡ held_if part n version (keeps.slot n) →
     changed (if b then Some (hold_change keeps part r).row else o) (keeps.slot n)
     ≡ held_if part n (if b then Some r.version else version) (keeps.slot n)
 held_by keeps part r o version n true is later =
-    ap (λ (m : ℕ). holding (hold_of part) (written_at part.writes m) (Some r.version) (keeps.slot m)) (equal_numbers r.number n is)
+    ap (λ (m : ℕ). holding (hold_of part) (written_at part.writes m) (Some r.version) (keeps.slot m))
+    (equal_numbers r.number n is)
 held_by keeps part r o version n false is later = later
 
 rows_held_if : (keeps : Keeps) (part : Part) (rs : List PageRead) (n : ℕ) →
@@ -102,7 +109,8 @@ pub quiet_elsewhere : (keeps : Keeps) (tid : Tid) (commit : Bool) → IsIndexed 
     is_among (keeps.party tid).numbers n ≡ false → resolving tid commit (keeps.slot n).writer (keeps.slot n) ≡ keeps.slot n
 quiet_elsewhere keeps tid commit indexed n away = by_hold (has_hold tid (keeps.slot n)) refl
   where
-    by_hold : (b : Bool) → has_hold tid (keeps.slot n) ≡ b → resolving tid commit (keeps.slot n).writer (keeps.slot n) ≡ keeps.slot n
+    by_hold : (b : Bool) → has_hold tid (keeps.slot n) ≡ b → resolving tid commit (keeps.slot n).writer
+        (keeps.slot n) ≡ keeps.slot n
     by_hold true is = absurd (let h : true ≡ false = sym (indexed n tid is) ∙ away in cc)
     by_hold false is = quiet_page tid commit (keeps.slot n) is
 
@@ -124,7 +132,8 @@ same_outcomes : (tid : Tid) (party : Party) (keeps : Keeps) → party.outcome �
     (λ (t : Tid). (with_party tid party keeps t).outcome) ≡ (state keeps).decided
 same_outcomes tid party keeps is = fun_ext (λ t. by_test t (is_same tid t) refl)
   where
-    by_test : (t : Tid) (b : Bool) → is_same tid t ≡ b → (unwrap_or (if b then Some party else None) (keeps.party t)).outcome ≡ (keeps.party t).outcome
+    by_test : (t : Tid) (b : Bool) → is_same tid t ≡ b
+        → (unwrap_or (if b then Some party else None) (keeps.party t)).outcome ≡ (keeps.party t).outcome
     by_test t true same = is ∙ ap (λ u. (keeps.party u).outcome) (same_tids tid t same)
     by_test t false same = refl
 
@@ -132,7 +141,8 @@ same_ends : (tid : Tid) (party : Party) (keeps : Keeps) → party.ended ≡ (kee
     (λ (t : Tid). (with_party tid party keeps t).ended) ≡ (state keeps).ended
 same_ends tid party keeps is = fun_ext (λ t. by_test t (is_same tid t) refl)
   where
-    by_test : (t : Tid) (b : Bool) → is_same tid t ≡ b → (unwrap_or (if b then Some party else None) (keeps.party t)).ended ≡ (keeps.party t).ended
+    by_test : (t : Tid) (b : Bool) → is_same tid t ≡ b
+        → (unwrap_or (if b then Some party else None) (keeps.party t)).ended ≡ (keeps.party t).ended
     by_test t true same = is ∙ ap (λ u. (keeps.party u).ended) (same_tids tid t same)
     by_test t false same = refl
 
@@ -140,7 +150,8 @@ ends : (tid : Tid) (party : Party) (keeps : Keeps) → party.ended ≡ true →
     (λ (t : Tid). (with_party tid party keeps t).ended) ≡ ending (state keeps).ended tid
 ends tid party keeps is = fun_ext (λ t. by_test t (is_same tid t))
   where
-    by_test : (t : Tid) (b : Bool) → (unwrap_or (if b then Some party else None) (keeps.party t)).ended ≡ (b || (keeps.party t).ended)
+    by_test : (t : Tid) (b : Bool) → (unwrap_or (if b then Some party else None) (keeps.party t)).ended ≡ (b
+        || (keeps.party t).ended)
     by_test t true = is
     by_test t false = refl
 
@@ -149,7 +160,8 @@ same_numbers : (tid : Tid) (party : Party) (keeps : Keeps) (t : Tid) (n : ℕ) �
     is_among (keeps.party t).numbers n ≡ true → is_among (with_party tid party keeps t).numbers n ≡ true
 same_numbers tid party keeps t n grows h = by_test (is_same tid t) refl
   where
-    by_test : (b : Bool) → is_same tid t ≡ b → is_among (unwrap_or (if b then Some party else None) (keeps.party t)).numbers n ≡ true
+    by_test : (b : Bool) → is_same tid t ≡ b → is_among (unwrap_or (if b then Some party else None) (keeps.party t)).numbers
+        n ≡ true
     by_test true same = grows (subst (λ u. is_among (keeps.party u).numbers n ≡ true) (sym (same_tids tid t same)) h)
     by_test false same = h
 
@@ -172,7 +184,8 @@ refused_answer : (refusal : Option Answer) (a : Answer) → Some a ≡ option_ma
 refused_answer None a h = cc
 refused_answer (Some r) a h = cc
 
-refused_after : (refusal : Option Answer) (a : Answer) (s : StoreState) (x : Transaction) → Some a ≡ option_map refused_write refusal →
+refused_after : (refusal : Option Answer) (a : Answer) (s : StoreState) (x : Transaction)
+    → Some a ≡ option_map refused_write refusal →
     after_write refusal s x ≡ s
 refused_after None a s x h = cc
 refused_after (Some r) a s x h = refl
@@ -197,7 +210,8 @@ write_done keeps x rows party step refused are is told under_is = record {
   answer = told ∙ ap write_answer (sym free);
   after = ap state under_is ∙ (made ∙ ap (λ r. after_write r (state keeps) x) (sym free));
   indexed = λ indexed. subst IsIndexed (sym under_is) (λ n t h.
-      same_numbers x.tid party keeps t n (subst (λ (p : Party). is_among (keeps.party x.tid).numbers n ≡ true → is_among p.numbers n ≡ true) (sym is) (λ h. h))
+      same_numbers x.tid party keeps t n (subst (λ (p : Party). is_among (keeps.party x.tid).numbers n ≡ true
+      → is_among p.numbers n ≡ true) (sym is) (λ h. h))
       (indexed n t (sym (hold_written t x.tid (written_at x.writes n) (keeps.slot n)) ∙
       subst (λ k. has_hold t k ≡ true) (slots n) h)));
 }
@@ -220,13 +234,15 @@ given_answer : (refusal : Option Answer) (a : Answer) → Some a ≡ refusal →
 given_answer None a h = cc
 given_answer (Some r) a h = cc
 
-given_after : (refusal : Option Answer) (a : Answer) (s : StoreState) (part : Part) → Some a ≡ refusal → after_prepare refusal s part ≡ s
+given_after : (refusal : Option Answer) (a : Answer) (s : StoreState) (part : Part) → Some a ≡ refusal
+    → after_prepare refusal s part ≡ s
 given_after None a s part h = cc
 given_after (Some r) a s part h = refl
 
 -- a Prepare that is refused
 pub prepare_refused : (keeps : Keeps) (part : Part) (step : Step) (a : Answer) →
-    Some a ≡ prepare_refusal (state keeps) part → step.answer ≡ a → under step.patch keeps ≡ keeps → IsStep keeps (Prepare part) step
+    Some a ≡ prepare_refusal (state keeps) part → step.answer ≡ a → under step.patch keeps ≡ keeps
+    → IsStep keeps (Prepare part) step
 prepare_refused keeps part step a refused told same =
     only_step keeps (Prepare part) step same (told ∙ given_answer (prepare_refusal (state keeps) part) a refused)
     (given_after (prepare_refusal (state keeps) part) a (state keeps) part refused)
@@ -236,7 +252,10 @@ pub prepare_done : (keeps : Keeps) (part : Part) (rows : List Change) (party : P
     AreAccesses part.reads part.writes →
     None ≡ prepare_refusal (state keeps) part →
     rows ≡ map (hold_change keeps part) part.reads →
-    party ≡ record (keeps.party part.tid) { numbers = (keeps.party part.tid).numbers ++ map (λ (r : PageRead). r.number) part.reads } →
+    party ≡ record (keeps.party part.tid) {
+      numbers = (keeps.party part.tid).numbers
+          ++ map (λ (r : PageRead). r.number) part.reads;
+    } →
     step.answer ≡ answer.Prepared →
     under step.patch keeps ≡ patched rows (Some (record { tid = part.tid; party = party })) keeps.next keeps →
     IsStep keeps (Prepare part) step
@@ -250,9 +269,11 @@ prepare_done keeps part rows party step accesses refused are is told under_is = 
     slots : (n : ℕ) → changed (change_in rows n) (keeps.slot n)
         ≡ holding (hold_of part) (written_at part.writes n) (read_at part.reads n) (keeps.slot n)
     slots n = subst (λ l. changed (change_in l n) (keeps.slot n)
-        ≡ holding (hold_of part) (written_at part.writes n) (read_at part.reads n) (keeps.slot n)) (sym are) (rows_held keeps part accesses n)
+        ≡ holding (hold_of part) (written_at part.writes n) (read_at part.reads n) (keeps.slot n)) (sym are)
+        (rows_held keeps part accesses n)
 
-    made : state (patched rows (Some (record { tid = part.tid; party = party })) keeps.next keeps) ≡ after_prepare None (state keeps) part
+    made : state (patched rows (Some (record { tid = part.tid; party = party })) keeps.next keeps) ≡ after_prepare None
+        (state keeps) part
     made =
         let decided = same_outcomes part.tid party keeps (ap (λ (p : Party). p.outcome) is) in
         let ended = same_ends part.tid party keeps (ap (λ (p : Party). p.ended) is) in
@@ -274,7 +295,8 @@ prepare_done keeps part rows party step accesses refused are is told under_is = 
         by_page None wrote h =
             among_left (keeps.party part.tid).numbers (map (λ (r : PageRead). r.number) part.reads) n (indexed n part.tid h)
         by_page (Some page) wrote h =
-            absurd (let some : IsSome (read_at part.reads n) = accesses.are_read n (subst (λ (o : Option (List ℕ)). IsSome o) (sym wrote) refl) in
+            absurd (let some : IsSome (read_at part.reads n) =
+            accesses.are_read n (subst (λ (o : Option (List ℕ)). IsSome o) (sym wrote) refl) in
             let none : IsSome {T = ℕ} None = subst (λ (o : Option ℕ). IsSome o) found some in cc)
 
     by_own : IsIndexed keeps → (n : ℕ) (t : Tid) (b : Bool) → is_same part.tid t ≡ b →
@@ -288,19 +310,23 @@ prepare_done keeps part rows party step accesses refused are is told under_is = 
     by_own indexed n t false same h =
         indexed n t (hold_from t (hold_of part) (written_at part.writes n) (read_at part.reads n) (keeps.slot n) h same)
 
-decided_given : (o : Option Outcome) (a : Answer) (s : StoreState) (tid : Tid) (p : Outcome) → Some a ≡ decided_answer o → a ≡ answer.Decided (unwrap_or o p)
+decided_given : (o : Option Outcome) (a : Answer) (s : StoreState) (tid : Tid) (p : Outcome) → Some a ≡ decided_answer o
+    → a ≡ answer.Decided (unwrap_or o p)
 decided_given None a s tid p h = cc
 decided_given (Some q) a s tid p h = cc
 
-decided_stays : (o : Option Outcome) (a : Answer) (s : StoreState) (tid : Tid) (p : Outcome) → Some a ≡ decided_answer o → after_decide o s tid p ≡ s
+decided_stays : (o : Option Outcome) (a : Answer) (s : StoreState) (tid : Tid) (p : Outcome) → Some a ≡ decided_answer o
+    → after_decide o s tid p ≡ s
 decided_stays None a s tid p h = cc
 decided_stays (Some q) a s tid p h = refl
 
 -- a Decide of what was decided
 pub decide_refused : (keeps : Keeps) (d : Decision) (step : Step) (a : Answer) →
-    Some a ≡ decided_answer (keeps.party d.tid).outcome → step.answer ≡ a → under step.patch keeps ≡ keeps → IsStep keeps (Decide d) step
+    Some a ≡ decided_answer (keeps.party d.tid).outcome → step.answer ≡ a → under step.patch keeps ≡ keeps
+    → IsStep keeps (Decide d) step
 decide_refused keeps d step a decided told same =
-    only_step keeps (Decide d) step same (told ∙ decided_given (keeps.party d.tid).outcome a (state keeps) d.tid d.outcome decided)
+    only_step keeps (Decide d) step same (told ∙ decided_given (keeps.party d.tid).outcome a (state keeps) d.tid d.outcome
+    decided)
     (decided_stays (keeps.party d.tid).outcome a (state keeps) d.tid d.outcome decided)
 
 undecided : (o : Option Outcome) → None ≡ decided_answer o → o ≡ None
@@ -326,7 +352,8 @@ decide_done keeps d party step decided is told under_is = record {
     free : (keeps.party d.tid).outcome ≡ None
     free = undecided (keeps.party d.tid).outcome decided
 
-    made : state (patched [] (Some (record { tid = d.tid; party = party })) keeps.next keeps) ≡ after_decide None (state keeps) d.tid d.outcome
+    made : state (patched [] (Some (record { tid = d.tid; party = party })) keeps.next keeps) ≡ after_decide None (state keeps)
+        d.tid d.outcome
     made =
         let decided = outcomes d.tid party d.outcome keeps (ap (λ (p : Party). p.outcome) is) in
         let ended = same_ends d.tid party keeps (ap (λ (p : Party). p.ended) is) in
@@ -348,7 +375,8 @@ resolve_done keeps tid commit rows party step indexed are is told under_is = rec
 }
   where
     slots : (n : ℕ) → changed (change_in rows n) (keeps.slot n) ≡ resolving tid commit (keeps.slot n).writer (keeps.slot n)
-    slots n = subst (λ l. changed (change_in l n) (keeps.slot n) ≡ resolving tid commit (keeps.slot n).writer (keeps.slot n)) (sym are)
+    slots n = subst (λ l. changed (change_in l n) (keeps.slot n) ≡ resolving tid commit (keeps.slot n).writer (keeps.slot n))
+        (sym are)
         (rows_ended keeps tid commit (keeps.party tid).numbers n (quiet_elsewhere keeps tid commit indexed n))
 
     made : state (patched rows (Some (record { tid = tid; party = party })) keeps.next keeps)
@@ -363,8 +391,10 @@ resolve_done keeps tid commit rows party step indexed are is told under_is = rec
         has_hold t (resolving tid commit (keeps.slot n).writer (keeps.slot n)) ≡ true →
         is_among (unwrap_or (if b then Some party else None) (keeps.party t)).numbers n ≡ true
     by_own n t true same h =
-        absurd (let none : has_hold tid (resolving tid commit (keeps.slot n).writer (keeps.slot n)) ≡ false = no_hold tid commit (keeps.slot n).writer (keeps.slot n) refl in
+        absurd (let none : has_hold tid (resolving tid commit (keeps.slot n).writer (keeps.slot n)) ≡ false =
+        no_hold tid commit (keeps.slot n).writer (keeps.slot n) refl in
         let some : has_hold tid (resolving tid commit (keeps.slot n).writer (keeps.slot n)) ≡ true =
-        subst (λ u. has_hold u (resolving tid commit (keeps.slot n).writer (keeps.slot n)) ≡ true) (sym (same_tids tid t same)) h in
+        subst (λ u. has_hold u (resolving tid commit (keeps.slot n).writer (keeps.slot n)) ≡ true) (sym (same_tids tid t same)) h
+        in
         let bad : true ≡ false = sym some ∙ none in cc)
     by_own n t false same h = indexed n t (hold_was t tid commit (keeps.slot n).writer (keeps.slot n) refl h)

@@ -53,8 +53,10 @@ planned old store first second plan few same one two first_room second_room = re
   first_room = first_room;
   second_answer = subst (λ (k : Keeps). plan.second ≡ answer_of (after_maybe (state k) first) second) (sym same)
       (two.answer ∙ ap (λ (s : StoreState). answer_of s second) one.after);
-  second_after = subst (λ (k : Keeps). state (under plan.second_patch (under plan.first_patch k)) ≡ after (after_maybe (state k) first) second)
+  second_after = subst (λ (k : Keeps). state (under plan.second_patch (under plan.first_patch k)) ≡ after
+      (after_maybe (state k) first) second)
       (sym same) (two.after ∙ ap (λ (s : StoreState). after s second) one.after);
-  second_indexed = subst (λ (k : Keeps). IsIndexed (under plan.second_patch (under plan.first_patch k))) (sym same) (two.indexed one.indexed);
+  second_indexed = subst (λ (k : Keeps). IsIndexed (under plan.second_patch (under plan.first_patch k))) (sym same)
+      (two.indexed one.indexed);
   second_room = second_room;
 }

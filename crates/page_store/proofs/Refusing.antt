@@ -12,7 +12,8 @@ use Rattle.page_types.specs.declared.answer.Answer.{Answer}
 use Rattle.page_types.specs.declared.answer.Answer.TheVariants as answer
 use Rattle.page_types.specs.Asked.{first_of}
 use Rattle.page_types.specs.Stores.{StoreState}
-use Rattle.page_types.specs.Obeys.{busy, conflict, settled, own_hold, decided_answer, refused_write, write_refusal, prepare_refusal}
+use Rattle.page_types.specs.Obeys.{busy, conflict, settled, own_hold, decided_answer, refused_write, write_refusal}
+use Rattle.page_types.specs.Obeys.{prepare_refusal}
 use Rattle.page_store.specs.Changes.{settled_write}
 
 -- what is no answer is none
@@ -21,10 +22,12 @@ none_if None h = refl
 none_if (Some x) h = absurd (h x refl)
 
 -- equal lists are refused equally
-pub crossed_over : (r : Result (Option Answer) NoMemory) (s : StoreState) (tid : Tid) (rs qs : List PageRead) (ws us : List PageWrite) →
+pub crossed_over : (r : Result (Option Answer) NoMemory) (s : StoreState) (tid : Tid) (rs qs : List PageRead)
+    (ws us : List PageWrite) →
     rs ≡ qs → ws ≡ us → IfOk r (λ a. a ≡ first_of (busy s tid rs ws) (conflict s rs)) →
     IfOk r (λ a. a ≡ first_of (busy s tid qs us) (conflict s qs))
-crossed_over (Ok a) s tid rs qs ws us reads writes given = given ∙ (λ i. first_of (busy s tid (reads i) (writes i)) (conflict s (reads i)))
+crossed_over (Ok a) s tid rs qs ws us reads writes given = given
+    ∙ (λ i. first_of (busy s tid (reads i) (writes i)) (conflict s (reads i)))
 crossed_over (Err e) s tid rs qs ws us reads writes given = tt
 
 unsettled : (d : Option Outcome) (e : Bool) → None ≡ settled_write d e →

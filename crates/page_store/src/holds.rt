@@ -2,7 +2,8 @@
 
 ghost use Rattle.std.specs.Prelude.{◌≡◌, Some, IfOk, IfSome, option_copied, is_some};
 ghost use Rattle.page_types.specs.Accesses.{written_at};
-ghost use Rattle.page_types.specs.Obeys.{busy_by, busy_reader, is_before, sooner, other_reader, has_reader, has_hold, busy_at, busy, conflict, own_hold, first_held, refused_write};
+ghost use Rattle.page_types.specs.Obeys.{busy_by, busy_reader, is_before, sooner, other_reader, has_reader, has_hold, busy_at};
+ghost use Rattle.page_types.specs.Obeys.{busy, conflict, own_hold, first_held, refused_write};
 ghost use Rattle.page_store.specs.Rows.{kept_at};
 ghost use Rattle.page_store.specs.Keeps.{state};
 ghost use Rattle.page_store.specs.Steps.{seen};

@@ -5,7 +5,8 @@ ghost use Rattle.std.specs.BTreeMap.{get};
 ghost use Rattle.std.specs.Ordering.{nat_cmp};
 ghost use Rattle.pair_types.specs.declared.slot.Tid.{Tid};
 ghost use Rattle.page_store.specs.Rows.{kept_at};
-ghost use Rattle.page_store.specs.Keeps.{kept_in, party_in, stranger, nothing, tid_cmp, changed, change_in, changed_by, concerned, IsReady, IsPartyReady, RowsStay, PartiesStay};
+ghost use Rattle.page_store.specs.Keeps.{kept_in, party_in, stranger, nothing, tid_cmp, changed, change_in, changed_by};
+ghost use Rattle.page_store.specs.Keeps.{concerned, IsReady, IsPartyReady, RowsStay, PartiesStay};
 
 use crate::party::{Involved, Party};
 use crate::patch::Patch;

@@ -1,6 +1,7 @@
 //! The store.
 
-ghost use Rattle.std.specs.Prelude.{◌≡◌, ℕ, ◌+◌, ◌<◌, ◌≤◌, ◌^◌, Option, None, IfOk, OnOk, OnErr, option_copied, is_some, if◌then◌else◌};
+ghost use Rattle.std.specs.Prelude.{◌≡◌, ℕ, ◌+◌, ◌<◌, ◌≤◌, ◌^◌, Option, None, IfOk, OnOk, OnErr, option_copied, is_some};
+ghost use Rattle.std.specs.Prelude.{if◌then◌else◌};
 ghost use Rattle.page_store.specs.Keeps.{state, first_keeps, IsIndexed, IsBounded};
 ghost use Rattle.page_store.specs.Rows.{row_of};
 ghost use Rattle.page_store.specs.Steps.{keeps_of};
@@ -80,7 +81,8 @@ impl Store {
     ghost use Rattle.page_types.specs.Stores.{first_state};
     ghost use Rattle.page_types.specs.Obeys.{answer_of, after, IsFormed};
     ghost use Rattle.page_types.specs.declared.command.Command.{Command};
-    ghost use Rattle.page_store.specs.Shown.{state_of, obeyed_of, after_maybe, answer_maybe, AreFormed, IsFirst, IsPlan, number_of};
+    ghost use Rattle.page_store.specs.Shown.{state_of, obeyed_of, after_maybe, answer_maybe, AreFormed, IsFirst, IsPlan};
+    ghost use Rattle.page_store.specs.Shown.{number_of};
 
     /// A store that obeyed nothing. Where there is a first page, it lies in slot 0 at version 1.
     pub fn new(alloc: Global, first: Option<Page>) -> Result<Store, NoMemory>

@@ -1,12 +1,14 @@
 //! What Writes, Prepares and Decides do.
 
-ghost use Rattle.std.specs.Prelude.{◌≡◌, ℕ, ◌+◌, ◌≤◌, ◌^◌, ◌++◌, map, Some, None, IfOk, IfSome, option_map, option_copied, if◌then◌else◌};
+ghost use Rattle.std.specs.Prelude.{◌≡◌, ℕ, ◌+◌, ◌≤◌, ◌^◌, ◌++◌, map, Some, None, IfOk, IfSome, option_map, option_copied};
+ghost use Rattle.std.specs.Prelude.{if◌then◌else◌};
 ghost use Rattle.page_types.specs.declared.command.Command.TheVariants.{Write, Prepare, Decide};
 ghost use Rattle.page_types.specs.declared.versions.PageRead.{PageRead};
 ghost use Rattle.page_types.specs.declared.answer.Answer.TheVariants.{Ended};
 ghost use Rattle.page_types.specs.Accesses.{AreAccesses};
 ghost use Rattle.page_types.specs.Asked.{first_of};
-ghost use Rattle.page_types.specs.Obeys.{busy, conflict, own_hold, hold_of, decided_answer, refused_write, write_refusal, prepare_refusal};
+ghost use Rattle.page_types.specs.Obeys.{busy, conflict, own_hold, hold_of, decided_answer, refused_write, write_refusal};
+ghost use Rattle.page_types.specs.Obeys.{prepare_refusal};
 ghost use Rattle.page_store.specs.Keeps.{patched, state};
 ghost use Rattle.page_store.specs.Steps.{seen, under, IsStep};
 ghost use Rattle.page_store.specs.Changes.{write_change, hold_change, settled_write};

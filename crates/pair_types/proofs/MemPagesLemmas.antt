@@ -1,5 +1,6 @@
 -- How a map of pages in memory changes with the collections that it is made of.
-use Rattle.std.proofs.Common.{◌≡◌, ◌≢◌, ℕ, List, Bool, true, false, Option, Some, None, IsSome, refl, sym, ap, subst, arith, ◌∙◌, le_of_eq, [], ◌<◌, ◌≤◌, unwrap_or, ⊎_elim}
+use Rattle.std.proofs.Common.{◌≡◌, ◌≢◌, ℕ, List, Bool, true, false, Option, Some, None, IsSome, refl, sym, ap, subst, arith, ◌∙◌}
+use Rattle.std.proofs.Common.{le_of_eq, [], ◌<◌, ◌≤◌, unwrap_or, ⊎_elim}
 use Rattle.std.proofs.lemmas.Bool.{cases_lt}
 use Rattle.std.proofs.lemmas.Map.Lookups.{exact_pairs, exact_unsigned}
 use Rattle.std.specs.BTreeMap as tree
@@ -67,7 +68,8 @@ none_is_not_some : IsSome {T = Option (List ℕ)} None → ⊥
 none_is_not_some h = cc
 
 -- a slot that is known is known to hold what lies there
-known_at-some : (read : Bool) (written held : Option (List ℕ)) → IsSome (known_at read written held) → Some held ≡ known_at read written held
+known_at-some : (read : Bool) (written held : Option (List ℕ)) → IsSome (known_at read written held)
+    → Some held ≡ known_at read written held
 known_at-some true written held some = refl
 known_at-some false (Some w) held some = refl
 known_at-some false None held some = absurd (none_is_not_some some)
@@ -79,7 +81,8 @@ learns_by_write false (Some w) held page some = refl
 learns_by_write false None held page some = cc
 
 -- an insertion among the writes is a write
-pub written_so : (old new : MemPages) (s : Slot) (page : List ℕ) → new.stores ≡ old.stores → new.held ≡ old.held → new.read ≡ old.read
+pub written_so : (old new : MemPages) (s : Slot) (page : List ℕ) → new.stores ≡ old.stores → new.held ≡ old.held
+    → new.read ≡ old.read
     → tree.Updates place_cmp old.written new.written (place s) (Some page) → Writes (state_of old) (state_of new) s page
 written_so old new s page stores held read updates = record {
   lasts = record {
@@ -89,8 +92,10 @@ written_so old new s page stores held read updates = record {
   };
   puts = puts_from_updates old.written new.written s page updates;
   learns = record {
-    known = rw (updates.1, held, read) (known_at-written (sorted.contains place_cmp old.read (place s)) (Some page) (held_of old s) refl);
-    kept = λ some. rw (updates.1, held, read) (learns_by_write (sorted.contains place_cmp old.read (place s)) (writes_of old s) (held_of old s) page some);
+    known = rw (updates.1, held, read) (known_at-written (sorted.contains place_cmp old.read (place s)) (Some page)
+        (held_of old s) refl);
+    kept = λ some. rw (updates.1, held, read) (learns_by_write (sorted.contains place_cmp old.read (place s)) (writes_of old s)
+        (held_of old s) page some);
     others = λ t apart. rw (updates.2 (place t) (other_place s t apart), held, read) refl;
   };
 }
@@ -144,7 +149,8 @@ fresh_so old new s store free marked = record {
 
 -- a slot that is in none of the collections is free
 pub free_so : (pages : MemPages) (s : Slot) → tree.get place_cmp pages.held (place s) ≡ None
-    → tree.get place_cmp pages.written (place s) ≡ None → sorted.contains place_cmp pages.read (place s) ≡ false → IsFreeIn pages s.store s
+    → tree.get place_cmp pages.written (place s) ≡ None → sorted.contains place_cmp pages.read (place s) ≡ false
+    → IsFreeIn pages s.store s
 free_so pages s held written read = record { store = refl; held = held; unread = rw (read, written) refl; unwritten = written }
 
 -- a mark and then the page in the slot is a read
@@ -175,7 +181,8 @@ read_so old new s page within beyond page_within page_beyond =
         }
       where
         kept : IsMarked old new s → IsSome (reads_of old s) → reads_of new s ≡ reads_of old s
-        kept mark some = mark.known ∙ known_at-some (sorted.contains place_cmp old.read (place s)) (writes_of old s) (held_of old s) some
+        kept mark some = mark.known ∙ known_at-some (sorted.contains place_cmp old.read (place s)) (writes_of old s)
+            (held_of old s) some
 
     outside : old.stores ≤ s.store → Reads (state_of old) (state_of new) s page
     outside h =

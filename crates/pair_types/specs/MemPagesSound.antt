@@ -1,5 +1,6 @@
 -- What a map of pages in memory keeps: each written slot was read, and the reads are true of what lies below.
-use Rattle.std.proofs.Common.{◌≡◌, ◌||◌, ℕ, List, Bool, true, false, Option, Some, None, IsSome, is_some, if◌then◌else◌, refl, subst}
+use Rattle.std.proofs.Common.{◌≡◌, ◌||◌, ℕ, List, Bool, true, false, Option, Some, None, IsSome, is_some, if◌then◌else◌, refl}
+use Rattle.std.proofs.Common.{subst}
 use Rattle.std.specs.BTreeSet.{contains}
 use Rattle.pair_types.specs.declared.mem_pages.MemPages.{MemPages}
 use Rattle.pair_types.specs.PageMaps.{PageMap}
@@ -22,7 +23,8 @@ known_at-held false None held told is = cc
 
 pub state_of-sound : (pages : MemPages) → IsSound (state_of pages)
 state_of-sound pages = record {
-  covers = λ s written. known_at-written (contains place_cmp pages.read (s.store, s.number)) (writes_of pages s) (held_of pages s) written;
+  covers = λ s written. known_at-written (contains place_cmp pages.read (s.store, s.number)) (writes_of pages s) (held_of pages s)
+      written;
   agrees = λ below told. record {
     at = λ s held is.
         let same : held_of pages ≡ below = cc in

@@ -1,6 +1,7 @@
 //! The acceptor of one replica.
 
-ghost use Rattle.std.specs.Prelude.{◌≡◌, ◌≢◌, ℕ, ◌<◌, ◌↔◌, if◌then◌else◌, length, IsNone, IsSomeAnd, MatchOption, IfOk, OnOk, OnErr};
+ghost use Rattle.std.specs.Prelude.{◌≡◌, ◌≢◌, ℕ, ◌<◌, ◌↔◌, if◌then◌else◌, length, IsNone, IsSomeAnd, MatchOption, IfOk, OnOk};
+ghost use Rattle.std.specs.Prelude.{OnErr};
 ghost use Rattle.paxos_core.specs.Standing.{row_at};
 
 use crate::ballot::Ballot;

@@ -1,5 +1,6 @@
 -- The numbers of all nodes, and what is counted over them.
-use Rattle.std.proofs.Common.{◌≡◌, ℕ, ◌==◌, ◌+◌, ◌*◌, ◌^◌, ◌≤◌, ◌<◌, ◌||◌, cond, Bool, true, false, List, [], ◌∷◌, length, Option, Some, is_some, ap, arith, refl, sym, subst, ◌∙◌}
+use Rattle.std.proofs.Common.{◌≡◌, ℕ, ◌==◌, ◌+◌, ◌*◌, ◌^◌, ◌≤◌, ◌<◌, ◌||◌, cond, Bool, true, false, List, [], ◌∷◌, length, Option}
+use Rattle.std.proofs.Common.{Some, is_some, ap, arith, refl, sym, subst, ◌∙◌}
 use Rattle.std.proofs.lemmas.Bool.{eqb-true, true≢false}
 use Rattle.std.proofs.lemmas.Cmp.{nat_cmp_total, tied_itself}
 use Rattle.std.proofs.lemmas.List.Elements.{All-head, All-tail}
@@ -43,7 +44,8 @@ first_is x ids = ap (λ (b : Bool). b || is_among x ids) (unsigned_ties x x ∙ 
 apart : (x y : ℕ) (xs ys : List ℕ) → nat_cmp x y ≡ Less → AllAbove y ys → is_among x (x ∷ xs) ≡ is_among x (y ∷ ys) → ⊥
 apart x y xs ys less above h = true≢false (sym (first_is x xs) ∙ h ∙ absent x (y ∷ ys) (less, above_too x y ys less above))
 
-heads_by : (x y : ℕ) (xs ys : List ℕ) → AllAbove x xs → AllAbove y ys → ((q : ℕ) → is_among q (x ∷ xs) ≡ is_among q (y ∷ ys)) → (r : Ordering) → nat_cmp x y ≡ r → x ≡ y
+heads_by : (x y : ℕ) (xs ys : List ℕ) → AllAbove x xs → AllAbove y ys → ((q : ℕ) → is_among q (x ∷ xs) ≡ is_among q (y ∷ ys))
+    → (r : Ordering) → nat_cmp x y ≡ r → x ≡ y
 heads_by x y xs ys s t h Less is = absurd (apart x y xs ys is t (h x))
 heads_by x y xs ys s t h Equal is = exact_unsigned x y is
 heads_by x y xs ys s t h Greater is = absurd (apart y x ys xs (nat_cmp_total.antisymm y x ∙ ap ordering_reverse is) s (sym (h y)))
@@ -55,14 +57,16 @@ other_than false c d e left right = e
 behind_first : (q x : ℕ) (ids : List ℕ) → AllAbove x ids → (q == x) ≡ true → is_among q ids ≡ false
 behind_first q x ids above e = absent q ids (subst (λ z. AllAbove z ids) (sym (eqb-true q x e)) above)
 
-tails : (x : ℕ) (xs ys : List ℕ) → AllAbove x xs → AllAbove x ys → ((q : ℕ) → is_among q (x ∷ xs) ≡ is_among q (x ∷ ys)) → (q : ℕ) → is_among q xs ≡ is_among q ys
+tails : (x : ℕ) (xs ys : List ℕ) → AllAbove x xs → AllAbove x ys → ((q : ℕ) → is_among q (x ∷ xs) ≡ is_among q (x ∷ ys)) → (q : ℕ)
+    → is_among q xs ≡ is_among q ys
 tails x xs ys s t h q = other_than (q == x) (is_among q xs) (is_among q ys) (h q) (behind_first q x xs s) (behind_first q x ys t)
 
 joined : (x y : ℕ) (xs ys : List ℕ) → x ≡ y → xs ≡ ys → x ∷ xs ≡ y ∷ ys
 joined x y xs ys e is = λ i. e i ∷ is i
 
 -- rising lists of the same numbers are the same
-same : (xs ys : List ℕ) → IsStrictlySortedBy nat_cmp xs → IsStrictlySortedBy nat_cmp ys → ((q : ℕ) → is_among q xs ≡ is_among q ys) → xs ≡ ys
+same : (xs ys : List ℕ) → IsStrictlySortedBy nat_cmp xs → IsStrictlySortedBy nat_cmp ys
+    → ((q : ℕ) → is_among q xs ≡ is_among q ys) → xs ≡ ys
 unfolding IsStrictlySortedBy
 same [] [] s t h = refl
 same [] (y ∷ ys) s t h = absurd (true≢false (sym (first_is y ys) ∙ sym (h y)))
@@ -92,7 +96,8 @@ keys_alone m ordered ids l =
     same (keys m) ids ordered (sorted_from_strictly_increasing ids l.rising) (λ q. keys_found m.entries q ∙ sym (l.all q))
 
 -- there are as many nodes as entries
-pub nodes_counted : (m : BTreeMap ℕ Node) → IsOrdered nat_cmp m → (ids : List ℕ) → Lists (λ q. get nat_cmp m q) ids → btree_map_len m ≡ length ids
+pub nodes_counted : (m : BTreeMap ℕ Node) → IsOrdered nat_cmp m → (ids : List ℕ) → Lists (λ q. get nat_cmp m q) ids
+    → btree_map_len m ≡ length ids
 nodes_counted m ordered ids l = sym (length-keys_of m.entries) ∙ ap length (keys_alone m ordered ids l)
 
 -- how many bytes the node of an entry holds, where it is a file
@@ -106,12 +111,14 @@ Held nodes e = nodes e.0 ≡ Some e.1
 bytes_by_keys : (nodes : Nodes) (es : List (ℕ × Node)) → All (Held nodes) es → sum_by entry_bytes es ≡ bytes_at nodes (keys_of es)
 bytes_by_keys nodes [] there = refl
 bytes_by_keys nodes (e ∷ es) there =
-    let first : bytes_of e.1 ≡ bytes_in (nodes e.0) = ap bytes_in {x = Some e.1} {y = nodes e.0} (sym (All-head (Held nodes) e es there)) in
+    let first : bytes_of e.1 ≡ bytes_in (nodes e.0) = ap bytes_in {x = Some e.1} {y = nodes e.0}
+    (sym (All-head (Held nodes) e es there)) in
     let rest = bytes_by_keys nodes es (All-tail (Held nodes) e es there) in
     sum_by-cons entry_bytes e es ∙ (λ i. first i + rest i) ∙ sym (sum_by-cons (λ q. bytes_in (nodes q)) e.0 (keys_of es))
 
 -- the bytes of all entries are those of all nodes
-pub bytes_counted : (m : BTreeMap ℕ Node) → IsOrdered nat_cmp m → All (Held (λ q. get nat_cmp m q)) m.entries → (ids : List ℕ) → Lists (λ q. get nat_cmp m q) ids
+pub bytes_counted : (m : BTreeMap ℕ Node) → IsOrdered nat_cmp m → All (Held (λ q. get nat_cmp m q)) m.entries → (ids : List ℕ)
+    → Lists (λ q. get nat_cmp m q) ids
     → sum_by entry_bytes m.entries ≡ bytes_at (λ q. get nat_cmp m q) ids
 bytes_counted m ordered there ids l =
     bytes_by_keys (λ q. get nat_cmp m q) m.entries there ∙ ap (bytes_at (λ q. get nat_cmp m q)) (keys_alone m ordered ids l)
@@ -129,15 +136,18 @@ counted_first all left is =
     let as_long : length left ≡ length all = ap length is in
     record { total = omega (arith, same_total); low = omega (arith, as_long) }
 
-pub counted_fits : (all left rest : List (ℕ × Node)) (e : ℕ × Node) (count n : ℕ) → Counted all left count → left ≡ e ∷ rest → n < 2 ^ 64 → length all < 2 ^ 63 → count + n < 2 ^ 128
+pub counted_fits : (all left rest : List (ℕ × Node)) (e : ℕ × Node) (count n : ℕ) → Counted all left count → left ≡ e ∷ rest
+    → n < 2 ^ 64 → length all < 2 ^ 63 → count + n < 2 ^ 128
 counted_fits all left rest e count n c is small few =
     let long : length left ≡ length rest + 1 = ap length is ∙ omega arith in
     omega (arith, c.low, long, small, few)
 
-pub counted_next : (all left rest : List (ℕ × Node)) (e : ℕ × Node) (count n : ℕ) → Counted all left count → left ≡ e ∷ rest → n ≡ entry_bytes e → n < 2 ^ 64 → Counted all rest (count + n)
+pub counted_next : (all left rest : List (ℕ × Node)) (e : ℕ × Node) (count n : ℕ) → Counted all left count → left ≡ e ∷ rest
+    → n ≡ entry_bytes e → n < 2 ^ 64 → Counted all rest (count + n)
 counted_next all left rest e count n c is counts small =
     let long : length left ≡ length rest + 1 = ap length is ∙ omega arith in
-    let more : sum_by entry_bytes left ≡ entry_bytes e + sum_by entry_bytes rest = ap (sum_by entry_bytes) is ∙ sum_by-cons entry_bytes e rest in
+    let more : sum_by entry_bytes left ≡ entry_bytes e + sum_by entry_bytes rest = ap (sum_by entry_bytes) is
+    ∙ sum_by-cons entry_bytes e rest in
     record {
       total = omega (arith, c.total, more, counts);
       low = omega (arith, c.low, long, small);

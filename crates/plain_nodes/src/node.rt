@@ -1,8 +1,10 @@
 //! The nodes of a tree.
 
 ghost use Rattle.std.specs.Option.{option_copied};
-ghost use Rattle.std.specs.Prelude.{◌≡◌, ◌+◌, ◌^◌, ◌<◌, ◌≤◌, nat_lt, false, Some, OnOk, OnErr, IfOk, length, vec_len, vec_capacity};
-ghost use Rattle.fs_rules.specs.Edits.{add_link, add_name, cuts_at, drop_link, drop_name, set_attributes, set_ctime, set_parent, set_size, set_size_if, touch, write_at};
+ghost use Rattle.std.specs.Prelude.{◌≡◌, ◌+◌, ◌^◌, ◌<◌, ◌≤◌, nat_lt, false, Some, OnOk, OnErr, IfOk, length, vec_len};
+ghost use Rattle.std.specs.Prelude.{vec_capacity};
+ghost use Rattle.fs_rules.specs.Edits.{add_link, add_name, cuts_at, drop_link, drop_name, set_attributes, set_ctime, set_parent};
+ghost use Rattle.fs_rules.specs.Edits.{set_size, set_size_if, touch, write_at};
 ghost use Rattle.fs_rules.specs.Making.{gain_name, give_size, lacks_cookies, lacks_links};
 ghost use Rattle.fs_rules.specs.Names.{named};
 ghost use Rattle.fs_rules.specs.Renaming.{renew};

@@ -3,8 +3,10 @@
 ghost use Rattle.std.specs.BTreeMap.{get};
 ghost use Rattle.std.specs.Option.{option_copied};
 ghost use Rattle.std.specs.Ordering.{nat_cmp};
-ghost use Rattle.std.specs.Prelude.{◌≡◌, ℕ, List, ◌+◌, ◌^◌, ◌<◌, ◌≤◌, nat_lt, false, Some, None, IfOk, IfSome, IsSome, OnOk, OnErr, length, option_and_then, vec_len, vec_capacity};
-ghost use Rattle.fs_rules.specs.Edits.{add_link, add_name, drop_link, drop_name, set_attributes, set_ctime, set_size_if, touch, with_node, write_at};
+ghost use Rattle.std.specs.Prelude.{◌≡◌, ℕ, List, ◌+◌, ◌^◌, ◌<◌, ◌≤◌, nat_lt, false, Some, None, IfOk, IfSome, IsSome, OnOk};
+ghost use Rattle.std.specs.Prelude.{OnErr, length, option_and_then, vec_len, vec_capacity};
+ghost use Rattle.fs_rules.specs.Edits.{add_link, add_name, drop_link, drop_name, set_attributes, set_ctime, set_size_if, touch};
+ghost use Rattle.fs_rules.specs.Edits.{with_node, write_at};
 ghost use Rattle.fs_rules.specs.Making.{gain_name, give_size, lacks_cookies, lacks_links};
 ghost use Rattle.fs_rules.specs.Removing.{lose_link};
 ghost use Rattle.fs_rules.specs.Renaming.{parent_of, renew};
@@ -207,7 +209,8 @@ impl Nodes {
     /// A file has one link less, and goes with its last.
     #[tactic(auto, unfolding(fs_rules::specs::Edits::with_node))]
     pub fn lose_link(&mut self, fileid: u64, now: Moment)
-        ensures { nodes_of self.new ≡ with_node fileid (option_and_then (lose_link now) (nodes_of self.old fileid)) (nodes_of self.old) }
+        ensures { nodes_of self.new ≡ with_node fileid (option_and_then (lose_link now) (nodes_of self.old fileid))
+            (nodes_of self.old) }
     {
         if self.stays(fileid) {
             self.unlink(fileid, now);
@@ -270,7 +273,8 @@ impl Nodes {
         now: Moment,
     ) -> Result<(), NoMemory>
         requires { IfSome (nodes_of self.old directory) (λ n. lacks_cookies n.inode ≡ false) }
-        ensures ok { OnOk result (nodes_of self.new ≡ edited directory (λ n. touch now (add_name name.now fileid n)) (nodes_of self.old)) }
+        ensures ok { OnOk result (nodes_of self.new ≡ edited directory (λ n. touch now (add_name name.now fileid n))
+            (nodes_of self.old)) }
         ensures err { OnErr result (nodes_of self.new ≡ nodes_of self.old) }
     {
         match self.map.get_mut(&directory) {
@@ -318,7 +322,8 @@ impl Nodes {
         requires cookies { IfSome (nodes_of self.old directory) (λ n. lacks_cookies n.inode ≡ false) }
         requires own_links { lacks_links kind node.inode ≡ false }
         requires own_cookies { lacks_cookies node.inode ≡ false }
-        ensures ok { OnOk result (nodes_of self.new ≡ edited directory (gain_name kind name.now fileid now) (with_node fileid (Some node) (nodes_of self.old))) }
+        ensures ok { OnOk result (nodes_of self.new ≡ edited directory (gain_name kind name.now fileid now)
+            (with_node fileid (Some node) (nodes_of self.old))) }
         ensures err { OnErr result (nodes_of self.new ≡ nodes_of self.old) }
     {
         let earlier = self.replace(fileid, node)?;
@@ -364,7 +369,8 @@ impl Nodes {
     /// Room for the names of a directory and a further one, or `NoMemory`.
     pub fn room_for_name(&self, alloc: Global, directory: u64) -> Result<Vec<NameEntry>, NoMemory>
         ensures empty { IfOk result (λ room. vec_len room ≡ 0) }
-        ensures enough { IfOk result (λ room. IfSome (nodes_of self.now directory) (λ n. length n.names + 1 ≤ vec_capacity room)) }
+        ensures enough { IfOk result (λ room. IfSome (nodes_of self.now directory)
+            (λ n. length n.names + 1 ≤ vec_capacity room)) }
     {
         Ok(Vec::with_capacity(alloc, self.count_names(directory) + 1)?)
     }

@@ -2,7 +2,8 @@
 use Rattle.std.proofs.Common.{◌≡◌, ◌≤◌, Bool, true, false, cond, List, [], ◌∷◌, length, filter, map, ap, arith, refl, subst, sym}
 use Rattle.std.proofs.lemmas.List.Sums.{count_by-le-length, length-filter}
 
-kept : {A B : Type 0} (f : A → B) (b : Bool) (x : A) (xs : List A) (ys : List B) → map f xs ≡ ys → map f (cond b (x ∷ xs) xs) ≡ cond b (f x ∷ ys) ys
+kept : {A B : Type 0} (f : A → B) (b : Bool) (x : A) (xs : List A) (ys : List B) → map f xs ≡ ys
+    → map f (cond b (x ∷ xs) xs) ≡ cond b (f x ∷ ys) ys
 kept f true x xs ys same = ap (λ zs. f x ∷ zs) same
 kept f false x xs ys same = same
 

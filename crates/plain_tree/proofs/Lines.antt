@@ -1,5 +1,6 @@
 -- The way from a directory up to the root, one step further up.
-use Rattle.std.proofs.Common.{◌≡◌, ℕ, suc, ◌-◌, ◌<◌, ◌==◌, ◌||◌, Bool, true, false, if◌then◌else◌, refl, arith, subst, sym, ap, ◌∙◌}
+use Rattle.std.proofs.Common.{◌≡◌, ℕ, suc, ◌-◌, ◌<◌, ◌==◌, ◌||◌, Bool, true, false, if◌then◌else◌, refl, arith, subst, sym, ap}
+use Rattle.std.proofs.Common.{◌∙◌}
 use Rattle.fs_rules.specs.declared.plans.Climb.{Climb}
 use Rattle.fs_rules.specs.declared.plans.Climb.TheVariants.{TooDeep, Found, Root}
 use Rattle.fs_rules.specs.Renaming.{climb, parent_of, through}
@@ -16,14 +17,17 @@ twice false true Root = refl
 twice false false way = refl
 
 climb_next : (nodes : Nodes) (sought left at : ℕ) → 0 < left
-    → climb nodes sought left at ≡ through (at == sought) (if at == 1 then Root else climb nodes sought (left - 1) (parent_of (nodes at) at))
+    → climb nodes sought left at ≡ through (at == sought) (if at == 1 then Root else climb nodes sought (left - 1)
+    (parent_of (nodes at) at))
 unfolding climb
 climb_next nodes sought left at some =
     let e : suc (left - 1) ≡ left = omega (arith, some) in
-    subst (λ (n : ℕ). climb nodes sought n at ≡ through (at == sought) (if at == 1 then Root else climb nodes sought (left - 1) (parent_of (nodes at) at))) e refl
+    subst (λ (n : ℕ). climb nodes sought n at ≡ through (at == sought) (if at == 1 then Root else climb nodes sought (left - 1)
+    (parent_of (nodes at) at))) e refl
 
 stepped : (nodes : Nodes) (sought left at : ℕ) (before here : Bool) → 0 < left → (at == sought) ≡ here → (at == 1) ≡ false
-    → through before (climb nodes sought left at) ≡ through (here || before) (climb nodes sought (left - 1) (parent_of (nodes at) at))
+    → through before (climb nodes sought left at) ≡ through (here || before)
+    (climb nodes sought (left - 1) (parent_of (nodes at) at))
 stepped nodes sought left at before here some here_is other =
     ap (through before) (climb_next nodes sought left at some
     ∙ ap (λ (b : Bool). through b (if at == 1 then Root else climb nodes sought (left - 1) (parent_of (nodes at) at))) here_is
@@ -45,7 +49,8 @@ pub climb_root : (nodes : Nodes) (sought left at : ℕ) (before after : Bool) (s
     → start ≡ through after Root
 climb_root nodes sought left at before after start is some after_is root =
     is ∙ ap (through before) (climb_next nodes sought left at some
-    ∙ ap (λ (b : Bool). through (at == sought) (if b then Root else climb nodes sought (left - 1) (parent_of (nodes at) at))) root)
+    ∙ ap (λ (b : Bool). through (at == sought) (if b then Root else climb nodes sought (left - 1) (parent_of (nodes at) at)))
+    root)
     ∙ twice before (at == sought) Root
     ∙ ap (λ (b : Bool). through b Root) (sym after_is)
 
@@ -54,6 +59,8 @@ deep true = refl
 deep false = refl
 
 -- none are left to look at
-pub climb_end : (nodes : Nodes) (sought left at : ℕ) (before : Bool) → left ≡ 0 → through before (climb nodes sought left at) ≡ TooDeep
+pub climb_end : (nodes : Nodes) (sought left at : ℕ) (before : Bool) → left ≡ 0
+    → through before (climb nodes sought left at) ≡ TooDeep
 unfolding climb
-climb_end nodes sought left at before e = subst (λ (n : ℕ). through before (climb nodes sought n at) ≡ TooDeep) (sym e) (deep before)
+climb_end nodes sought left at before e = subst (λ (n : ℕ). through before (climb nodes sought n at) ≡ TooDeep) (sym e)
+    (deep before)

@@ -1,5 +1,6 @@
 -- What the checks of a RENAME and of a LINK show of the directory of the new name.
-use Rattle.std.proofs.Common.{◌≡◌, ◌+◌, ◌<◌, ◌^◌, nat_le, ◌&&◌, ◌||◌, Bool, true, false, ℕ, Option, Some, None, IfSome, is_none, option_map, arith, refl, subst, sym}
+use Rattle.std.proofs.Common.{◌≡◌, ◌+◌, ◌<◌, ◌^◌, nat_le, ◌&&◌, ◌||◌, Bool, true, false, ℕ, Option, Some, None, IfSome, is_none}
+use Rattle.std.proofs.Common.{option_map, arith, refl, subst, sym}
 use Rattle.fs_rules.specs.Attributes.{given, is_directory}
 use Rattle.fs_rules.specs.Checks.{is_live}
 use Rattle.fs_rules.specs.Limits.{most_links}
@@ -50,13 +51,15 @@ can_move t r p stands live way to_is moves_is replaced_is = record {
       (live_has (λ (o : Object). lacks_cookies o.inode ≡ false) t r.to stands live way.cookies);
   links = λ on.
       let moves : reparents r ≡ true = cc in
-      let has = links_by t r.target r.source r.to (reparents r) stands live way.few way.free way.enough (both_so (is_directory r.source.inode.kind) _ moves) moves in
+      let has = links_by t r.target r.source r.to (reparents r) stands live way.few way.free way.enough
+      (both_so (is_directory r.source.inode.kind) _ moves) moves in
       rw (to_is, replaced_is) has;
 }
 
 -- a file that passed the checks can have a further link
 pub can_link : (t : Tree) (file directory : Object) (p : LinkPlan) → Stands t file → is_live file.place ≡ true
-    → Stands t directory → is_live directory.place ≡ true → nat_le most_links file.inode.nlink ≡ false → lacks_cookies directory.inode ≡ false
+    → Stands t directory → is_live directory.place ≡ true → nat_le most_links file.inode.nlink ≡ false
+    → lacks_cookies directory.inode ≡ false
     → p.file ≡ fileid_at file.place → p.directory ≡ fileid_at directory.place → CanLink t.nodes p
 can_link t file directory p file_stands file_live stands live few cookies file_is directory_is = record {
   links = subst (λ (x : ℕ). IfSome (t.nodes x) (λ (n : Node). n.inode.nlink + 1 < 2 ^ 32)) (sym file_is)

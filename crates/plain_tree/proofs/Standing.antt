@@ -1,5 +1,6 @@
 -- What a handle leads to stands in the tree, so that what the checks show of it is true of the node of its number.
-use Rattle.std.proofs.Common.{◌≡◌, ℕ, ◌<◌, ◌^◌, nat_le, ◌&&◌, Bool, true, false, Option, Some, None, IfSome, Ok, option_map, refl, sym, subst, ap, arith}
+use Rattle.std.proofs.Common.{◌≡◌, ℕ, ◌<◌, ◌^◌, nat_le, ◌&&◌, Bool, true, false, Option, Some, None, IfSome, Ok, option_map, refl}
+use Rattle.std.proofs.Common.{sym, subst, ap, arith}
 use Rattle.nfs3_types.specs.declared.attributes.Sattr.{Sattr}
 use Rattle.nfs3_types.specs.declared.cred.Cred.{Cred}
 use Rattle.nfs3_types.specs.declared.file_type.FileType.{FileType}
@@ -50,7 +51,8 @@ live_has P t o stands live h =
 -- ---- a new node
 
 last_three : (a b c d e f : Bool) (p q r s v w : Status) (u : Unit {0})
-    → (refuse_if a p >>= (λ _. refuse_if b q >>= (λ _. refuse_if c r >>= (λ _. refuse_if d s >>= (λ _. refuse_if e v >>= (λ _. refuse_if f w))))))
+    → (refuse_if a p >>= (λ _. refuse_if b q >>=
+    (λ _. refuse_if c r >>= (λ _. refuse_if d s >>= (λ _. refuse_if e v >>= (λ _. refuse_if f w))))))
     ≡ Ok u
     → (d ≡ false) × (e ≡ false) × (f ≡ false)
 last_three true b c d e f p q r s v w u is = absurd cc
@@ -67,10 +69,12 @@ below n e = grind (arith, e)
 
 -- the checks of a new node show that it can be made
 pub can_make : (t : Tree) (cred : Cred) (lane : ℕ) (kind : FileType) (s : Sattr) (o : Object) (u : Unit {0})
-    → Stands t o → is_live o.place ≡ true → need_new_node t cred lane o.inode kind s ≡ Ok u → CanMake t lane kind (fileid_at o.place)
+    → Stands t o → is_live o.place ≡ true → need_new_node t cred lane o.inode kind s ≡ Ok u
+    → CanMake t lane kind (fileid_at o.place)
 unfolding need_new_node
 can_make t cred lane kind s o u stands live e =
-    let parts = last_three (is_others cred s.uid) (is_of_others cred s.gid) (is_file kind && is_too_large s.size) (lacks_links kind o.inode)
+    let parts = last_three (is_others cred s.uid) (is_of_others cred s.gid) (is_file kind && is_too_large s.size)
+    (lacks_links kind o.inode)
     (lacks_numbers t lane) (lacks_cookies o.inode) _ _ _ _ _ _ u e in
     record {
       number = below (next_fileid t lane) parts.1;

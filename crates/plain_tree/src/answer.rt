@@ -47,7 +47,8 @@ impl Plain {
         lane: u32,
     ) -> Result<Body, Fault>
         requires reads { IsTrue (only_reads call.now) }
-        ensures { DoesOwn (row (tree_of self.now) (record { cred = cred.now; call = call.now; now = moment; lane = lane })) (tree_of self.now) (tree_of self.now) result }
+        ensures { DoesOwn (row (tree_of self.now) (record { cred = cred.now; call = call.now; now = moment; lane = lane }))
+            (tree_of self.now) (tree_of self.now) result }
     {
         match call {
             CallOver::GetAttr(a) => tells(self.get_attr(a)),
@@ -76,7 +77,8 @@ impl Plain {
         lane: u32,
     ) -> Result<Body, Fault>
         requires { lane < 16 }
-        ensures { DoesOwn (row (tree_of self.old) (record { cred = cred.now; call = call.now; now = moment; lane = lane })) (tree_of self.old) (tree_of self.new) result }
+        ensures { DoesOwn (row (tree_of self.old) (record { cred = cred.now; call = call.now; now = moment; lane = lane }))
+            (tree_of self.old) (tree_of self.new) result }
     {
         match call {
             CallOver::Null => Ok(Body::Null),
@@ -105,7 +107,8 @@ impl Plain {
         lane: u32,
     ) -> Result<Reply, NoMemory>
         requires { lane < 16 }
-        ensures { Answers (record { cred = cred.now; call = call.now; now = moment; lane = lane }) (tree_of self.old) (tree_of self.new) result }
+        ensures { Answers (record { cred = cred.now; call = call.now; now = moment; lane = lane }) (tree_of self.old)
+            (tree_of self.new) result }
     {
         let procedure = call.procedure();
         match self.act(alloc, cred, call, moment, lane) {

@@ -169,7 +169,8 @@ impl Plain {
         requires { lane < 16 }
         ensures check { result ≡ table.create_plan (tree_of self.now) cred.now a.now lane }
         ensures new { IfOk result (λ plan. plan.is_new ≡ true → CanMake (tree_of self.now) lane Reg plan.directory) }
-        ensures old { IfOk result (λ plan. plan.is_new ≡ false → IfSome (nodes_of self.now.nodes plan.fileid) (HasCuts plan.size)) }
+        ensures old { IfOk result (λ plan. plan.is_new ≡ false → IfSome (nodes_of self.now.nodes plan.fileid)
+            (HasCuts plan.size)) }
     {
         let name = a.place.name.as_slice();
         let directory = self.find_directory(&a.place)?;
@@ -191,8 +192,10 @@ impl Plain {
         plan: &CreatePlan,
     ) -> Result<CreateOk, NoMemory>
         requires { IfSome (nodes_of self.old.nodes plan.now.fileid) (HasCuts plan.now.size) }
-        ensures given { OnOk result (tree_of self.new ≡ edit_node plan.now.fileid (table.give_size plan.now.size now) (tree_of self.old)) }
-        ensures told { IfOk result (λ told. told ≡ table.told_of_new (tree_of self.old) (tree_of self.new) (Live plan.now.directory) (Live plan.now.fileid)) }
+        ensures given { OnOk result (tree_of self.new ≡ edit_node plan.now.fileid (table.give_size plan.now.size now)
+            (tree_of self.old)) }
+        ensures told { IfOk result (λ told. told ≡ table.told_of_new (tree_of self.old) (tree_of self.new)
+            (Live plan.now.directory) (Live plan.now.fileid)) }
         ensures err { OnErr result (tree_of self.new ≡ tree_of self.old) }
     {
         let directory = Place::Live(plan.directory);

@@ -55,7 +55,9 @@ impl Plain {
         now: Moment,
     ) -> Result<(), NoMemory>
         requires { CanLink (nodes_of self.old.nodes) plan.now }
-        ensures ok { OnOk result (tree_of self.new ≡ edit_node plan.now.directory (λ n. touch now (add_name name.now plan.now.file n)) (edit_node plan.now.file (λ n. set_ctime now (add_link n)) (tree_of self.old))) }
+        ensures ok { OnOk result (tree_of self.new ≡ edit_node plan.now.directory
+            (λ n. touch now (add_name name.now plan.now.file n)) (edit_node plan.now.file (λ n. set_ctime now (add_link n))
+            (tree_of self.old))) }
         ensures err { OnErr result (tree_of self.new ≡ tree_of self.old) }
     {
         self.nodes

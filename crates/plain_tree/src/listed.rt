@@ -77,7 +77,8 @@ pub fn push_snapshots(
     cookie: u64,
     snapshots: &[Snapshot],
 ) -> Result<(), NoMemory>
-    ensures { OnOk result (entries.new.items ≡ entries.old.items ++ behind cookie (map (listed Place.SnapshotDirectory) (map snapshot_entry (map snapshot_of snapshots.now)))) }
+    ensures { OnOk result (entries.new.items ≡ entries.old.items
+        ++ behind cookie (map (listed Place.SnapshotDirectory) (map snapshot_entry (map snapshot_of snapshots.now)))) }
 {
     for s in snapshots {
         let entry = Listed {

@@ -149,7 +149,8 @@ impl Plain {
         cookie: u64,
         directory: Place,
     ) -> Result<(), NoMemory>
-        ensures { OnOk result (entries.new.items ≡ entries.old.items ++ behind cookie (map (listed directory) (names_at (tree_of self.now) directory))) }
+        ensures { OnOk result (entries.new.items ≡ entries.old.items
+            ++ behind cookie (map (listed directory) (names_at (tree_of self.now) directory))) }
     {
         match directory {
             Place::Live(fileid) => match self.nodes.get(fileid) {
@@ -199,7 +200,13 @@ impl Plain {
         verifier: &[u8],
         count: u32,
     ) -> Result<Page, Fault>
-        ensures { GivesOwn (table.page (tree_of self.now) cred.now (size_with bare) (record { directory = directory.now; cookie = cookie; verifier = verifier.now; count = count })) result }
+        ensures { GivesOwn (table.page (tree_of self.now) cred.now (size_with bare) (record {
+          directory = directory.now;
+          cookie =
+              cookie;
+          verifier = verifier.now;
+          count = count;
+        })) result }
     {
         let o = self.find_object(directory)?;
         need_directory(&o)?;

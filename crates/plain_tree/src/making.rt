@@ -265,7 +265,8 @@ impl Plain {
         requires lane { lane < 16 }
         requires room { CanMake (tree_of self.old) lane m.kind plan.now.directory }
         ensures made { OnOk result (tree_of self.new ≡ table.make_node cred.now now lane plan.now name.now m (tree_of self.old)) }
-        ensures told { IfOk result (λ told. told ≡ table.told_of_new (tree_of self.old) (tree_of self.new) (Live plan.now.directory) (Live plan.now.fileid)) }
+        ensures told { IfOk result (λ told. told ≡ table.told_of_new (tree_of self.old) (tree_of self.new)
+            (Live plan.now.directory) (Live plan.now.fileid)) }
         ensures err { OnErr result (tree_of self.new ≡ tree_of self.old) }
     {
         let directory = Place::Live(plan.directory);
@@ -320,7 +321,8 @@ impl Plain {
     ) -> Result<Body, Fault>
         requires lane { lane < 16 }
         requires found { Stands (tree_of self.old) directory.now }
-        ensures { DoesOwn (table.make_directory (tree_of self.old) cred.now a.now now lane directory.now) (tree_of self.old) (tree_of self.new) result }
+        ensures { DoesOwn (table.make_directory (tree_of self.old) cred.now a.now now lane directory.now) (tree_of self.old)
+            (tree_of self.new) result }
     {
         let plan = self.make_directory_plan(cred, a, lane, directory)?;
         let name = a.place.name.as_slice();
@@ -365,7 +367,8 @@ impl Plain {
         lane: usize,
     ) -> Result<Body, Fault>
         requires { lane < 16 }
-        ensures { DoesOwn (table.symlink (tree_of self.old) cred.now a.now now lane) (tree_of self.old) (tree_of self.new) result }
+        ensures { DoesOwn (table.symlink (tree_of self.old) cred.now a.now now lane) (tree_of self.old) (tree_of self.new)
+            result }
     {
         let plan = self.symlink_plan(cred, a, lane)?;
         let name = a.place.name.as_slice();

@@ -120,7 +120,8 @@ impl Plain {
         now: Moment,
         directory: &Object,
     ) -> Result<Body, Status>
-        ensures { Does (table.remove_directory (tree_of self.old) cred.now name.now now directory.now) (tree_of self.old) (tree_of self.new) result }
+        ensures { Does (table.remove_directory (tree_of self.old) cred.now name.now now directory.now) (tree_of self.old)
+            (tree_of self.new) result }
     {
         let plan = self.remove_directory_plan(cred, name, directory)?;
         let place = Place::Live(plan.directory);

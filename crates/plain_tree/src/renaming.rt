@@ -211,7 +211,9 @@ impl Plain {
     /// A directory that gets another parent is not moved too deep, and not into itself or below itself.
     #[tactic(auto, unfolding(fs_rules::specs::Limits::deepest))]
     fn need_way(&self, r: &Renaming) -> Result<(), Status>
-        ensures { result ≡ (if table.reparents r.now then table.allow_move (table.climb (tree_of self.now).nodes (fileid_at r.now.source.place) (deepest + 1) (fileid_at r.now.to.place)) else Ok tt) }
+        ensures { result ≡ (if table.reparents r.now
+            then table.allow_move (table.climb (tree_of self.now).nodes (fileid_at r.now.source.place) (deepest + 1)
+            (fileid_at r.now.to.place)) else Ok tt) }
     {
         if !r.reparents() {
             return Ok(());

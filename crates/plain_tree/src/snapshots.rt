@@ -26,7 +26,8 @@ pub fn numbered(snapshots: &[Snapshot], number: u64) -> Option<&Snapshot>
 /// The first snapshot of this name, whose entry in `.snapshot` has the name.
 #[tactic(auto, unfolding(fs_rules::specs::Names::has_name))]
 pub fn snapshot_named<'a>(snapshots: &'a [Snapshot], name: &[u8]) -> Option<&'a Snapshot>
-    ensures { option_map entry_of (option_copied result) ≡ find (has_name name.now) (map snapshot_entry (map snapshot_of snapshots.now)) }
+    ensures { option_map entry_of (option_copied result) ≡ find (has_name name.now)
+        (map snapshot_entry (map snapshot_of snapshots.now)) }
 {
     let mut rest = snapshots;
     while !rest.is_empty() {

@@ -89,7 +89,8 @@ impl Plain {
         requires few { length self.old.snapshots.items < 1024 }
         requires young { self.old.epoch < 2 ^ 32 - 1 }
         ensures taken { OnOk result (tree_of self.new ≡ table.add_snapshot now name.now (tree_of self.old)) }
-        ensures told { IfOk result (λ told. told ≡ told_of_new (tree_of self.old) (tree_of self.new) SnapshotDirectory (Kept self.old.epoch 1)) }
+        ensures told { IfOk result (λ told. told ≡ told_of_new (tree_of self.old) (tree_of self.new) SnapshotDirectory
+            (Kept self.old.epoch 1)) }
         ensures err { OnErr result (tree_of self.new ≡ tree_of self.old) }
     {
         let directory = Place::SnapshotDirectory;
@@ -113,7 +114,8 @@ impl Plain {
         name: &[u8],
         now: Moment,
     ) -> Result<Body, Fault>
-        ensures { DoesOwn (table.take_snapshot (tree_of self.old) cred.now name.now now) (tree_of self.old) (tree_of self.new) result }
+        ensures { DoesOwn (table.take_snapshot (tree_of self.old) cred.now name.now now) (tree_of self.old) (tree_of self.new)
+            result }
     {
         self.need_new_snapshot(cred, name)?;
         let told = self.take_and_tell(alloc, name, now)?;
@@ -147,7 +149,8 @@ impl Plain {
     /// RMDIR in `.snapshot` drops a snapshot. It takes no memory.
     #[tactic(auto, unfolding(fs_rules::specs::Snapshots::drop_snapshot))]
     fn drop_snapshot(&mut self, cred: &Cred, name: &[u8], now: Moment) -> Result<Body, Status>
-        ensures { Does (table.drop_snapshot (tree_of self.old) cred.now name.now now) (tree_of self.old) (tree_of self.new) result }
+        ensures { Does (table.drop_snapshot (tree_of self.old) cred.now name.now now) (tree_of self.old) (tree_of self.new)
+            result }
     {
         self.need_snapshot(cred, name)?;
         let place = Place::SnapshotDirectory;

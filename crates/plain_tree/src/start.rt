@@ -78,7 +78,8 @@ impl Plain {
     /// moment begins at this one. It takes no memory.
     pub fn begin(&mut self, first: Moment)
         ensures all { tree_of self.new ≡ begin first (tree_of self.old) }
-        ensures first { (fsid : ℕ) (verifier : List ℕ) (other : AnyMoment) → tree_of self.old ≡ first_tree fsid verifier other → tree_of self.new ≡ first_tree fsid verifier first }
+        ensures first { (fsid : ℕ) (verifier : List ℕ) (other : AnyMoment) → tree_of self.old ≡ first_tree fsid verifier other
+            → tree_of self.new ≡ first_tree fsid verifier first }
     {
         self.nodes.begin(ROOT, first);
         self.snapshot_times = always(first);

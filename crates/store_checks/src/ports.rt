@@ -26,7 +26,14 @@ struct Full {
 impl Port for Full {
     type Rules = Any;
 
-    ghost state = { λ _. record { origin = record { stores = 1; first = [] }; pass = 5; mine = []; journal = None; doubts = 0; stops = 0 } };
+    ghost state = { λ _. record {
+      origin = record { stores = 1; first = [] };
+      pass = 5;
+      mine = [];
+      journal = None;
+      doubts = 0;
+      stops = 0;
+    } };
 
     fn pass(&self) -> u32 {
         5

@@ -1,5 +1,6 @@
 -- A store that obeyed a log, and then what joins the log.
-use Rattle.std.proofs.Common.{◌≡◌, ℕ, ◌+◌, Bool, true, false, List, [], ◌∷◌, ◌++◌, length, Option, Some, None, Result, Ok, Err, refl, ap, sym, ◌∙◌, subst, arith, length-append, append_assoc}
+use Rattle.std.proofs.Common.{◌≡◌, ℕ, ◌+◌, Bool, true, false, List, [], ◌∷◌, ◌++◌, length, Option, Some, None, Result, Ok, Err}
+use Rattle.std.proofs.Common.{refl, ap, sym, ◌∙◌, subst, arith, length-append, append_assoc}
 use Rattle.page_types.specs.declared.command.Command.{Command}
 use Rattle.page_types.specs.Stores.{StoreState}
 use Rattle.page_types.specs.Obeys.{after, after_all}
@@ -29,7 +30,8 @@ folds_late s0 s new log later d is old to =
     (sym (fold_append s0 log (list_of d)) ∙ ap (λ l. after_all s0 l) (sym is))))
 
 -- once both have
-pub folds_both : (s0 s new : StoreState) (log later : List Command) (d : Option Command) (c : Command) → later ≡ (log ++ list_of d) ++ c ∷ [] →
+pub folds_both : (s0 s new : StoreState) (log later : List Command) (d : Option Command) (c : Command)
+    → later ≡ (log ++ list_of d) ++ c ∷ [] →
     s ≡ after_all s0 log → new ≡ after (after_maybe s d) c → new ≡ after_all s0 later
 folds_both s0 s new log later d c is old to =
     to ∙ (ap (λ x. after x c) (folds_late s0 s (after_maybe s d) log (log ++ list_of d) d refl old refl) ∙
@@ -43,7 +45,8 @@ counts_late n m log later d is old to =
     let b = length_maybe d in
     omega arith
 
-pub counts_both : (n m : ℕ) (log later : List Command) (d : Option Command) (c : Command) → later ≡ (log ++ list_of d) ++ c ∷ [] → n ≡ length log →
+pub counts_both : (n m : ℕ) (log later : List Command) (d : Option Command) (c : Command) → later ≡ (log ++ list_of d) ++ c ∷ []
+    → n ≡ length log →
     m ≡ n + number_of d + 1 → m ≡ length later
 counts_both n m log later d c is old to =
     let k : length later ≡ length ((log ++ list_of d) ++ c ∷ []) = ap (λ (l : List Command). length l) is in
@@ -63,12 +66,14 @@ late_list : (s : StoreState) (d : Option Command) → late_command (late_of s d)
 late_list s None = refl
 late_list s (Some c) = refl
 
-pub joins_both : (s : StoreState) (log later : List Command) (d : Option Command) (c : Command) (late : Option (Command × Answer)) (a : Answer) →
+pub joins_both : (s : StoreState) (log later : List Command) (d : Option Command) (c : Command) (late : Option (Command × Answer))
+    (a : Answer) →
     later ≡ (log ++ list_of d) ++ c ∷ [] → late ≡ late_of s d → later ≡ log ++ settled_by late (Ok a) c
 joins_both s log later d c late a is was =
     is ∙ (append_assoc log (list_of d) (c ∷ []) ∙ ap (λ l. log ++ (l ++ c ∷ [])) (sym (ap late_command was ∙ late_list s d)))
 
-pub joins_late : (s : StoreState) (log later : List Command) (d : Option Command) (c : Command) (late : Option (Command × Answer)) (f : StepFault) →
+pub joins_late : (s : StoreState) (log later : List Command) (d : Option Command) (c : Command) (late : Option (Command × Answer))
+    (f : StepFault) →
     later ≡ log ++ list_of d → late ≡ late_of s d → later ≡ log ++ settled_by late (Err f) c
 joins_late s log later d c late f is was =
     is ∙ ap (λ l. log ++ l) (sym (append_none (late_command late) ∙ (ap late_command was ∙ late_list s d)))

@@ -1,5 +1,6 @@
 -- What a step leaves of a store and its log.
-use Rattle.std.proofs.Common.{◌≡◌, ℕ, ◌+◌, Bool, true, false, List, [], ◌∷◌, ◌++◌, length, Option, Some, None, Result, Ok, Err, unwrap_or, refl, ap, sym, ◌∙◌, subst, arith}
+use Rattle.std.proofs.Common.{◌≡◌, ℕ, ◌+◌, Bool, true, false, List, [], ◌∷◌, ◌++◌, length, Option, Some, None, Result, Ok, Err}
+use Rattle.std.proofs.Common.{unwrap_or, refl, ap, sym, ◌∙◌, subst, arith}
 use Rattle.std.specs.Prelude.{OnOk, OnErr, IsTrue}
 use Rattle.page_types.specs.declared.command.Command.{Command}
 use Rattle.page_types.specs.declared.answer.Answer.{Answer}
@@ -26,7 +27,8 @@ at_ok own u P is h = subst (λ r. OnOk r P) is h
 pub at_err : (own : Result (Unit {0}) GroupFault) (f : GroupFault) (P : Type 0) → own ≡ Err f → OnErr own P → P
 at_err own f P is h = subst (λ r. OnErr r P) is h
 
-pub both_obeyed : (first : StoreState) (old new : Store) (before now : Ledger Command) (late : Option Command) (c : Command) (a : Appended)
+pub both_obeyed : (first : StoreState) (old new : Store) (before now : Ledger Command) (late : Option Command) (c : Command)
+    (a : Appended)
     (settled : Settled) → IsSettledNow before now c a → late ≡ before.pending → Obeyed first old before.log →
     AdoptsBoth old new late c settled → Obeyed first new now.log
 both_obeyed first old new before now late c a settled is same o adopts = record {

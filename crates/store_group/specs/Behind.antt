@@ -33,7 +33,8 @@ abbrev pub settled_by : Option (Command × Answer) → Result Answer StepFault �
 settled_by late own command = late_command late ++ own_command own command
 
 -- the pending command, where there is one, and then this one were settled and obeyed
-pub record Settles (old new : Behind) (command : Command) (late : Option (Command × Answer)) (doubted : Bool) (own : Answer) : Type 0 where
+pub record Settles (old new : Behind) (command : Command) (late : Option (Command × Answer)) (doubted : Bool)
+    (own : Answer) : Type 0 where
   pub was_late : late ≡ late_of old.state old.pending
   pub answer : own ≡ answer_of (after_maybe old.state old.pending) command
   pub state : new.state ≡ after (after_maybe old.state old.pending) command

@@ -126,13 +126,15 @@ impl StoreGroup {
 
         // What it leaves.
         ensures left { Left result.own result.doubted (behind self.old) (behind self.new) command.now result.late }
-        ensures untouched { OnErr result.own (result.doubted ≡ false → (settling_of self.new ≡ settling_of self.old) × (weather.new ≡ weather.old)) }
+        ensures untouched { OnErr result.own (result.doubted ≡ false → (settling_of self.new ≡ settling_of self.old)
+            × (weather.new ≡ weather.old)) }
         ensures first { first_of_store self.new ≡ first_of_store self.old }
         ensures round { (settling_of self.new).round ≤ (settling_of self.old).round + 2 }
         ensures log { (settling_of self.new).log ≡ (settling_of self.old).log ++ settled_by result.late result.own command.now }
 
         // When it ends so.
-        ensures attempts { Attempts W.told 8 (moment (settling_of self.old) weather.old) (moment (settling_of self.new) weather.new) (end_of result.own) }
+        ensures attempts { Attempts W.told 8 (moment (settling_of self.old) weather.old)
+            (moment (settling_of self.new) weather.new) (end_of result.own) }
         ensures doubt_is_doubted { IfErr result.own (λ fault. fault ≡ StepFault.Doubt → result.doubted ≡ true) }
         ensures never_stopped { IfErr result.own (λ fault. fault ≢ StepFault.Stopped) }
         ensures late_heard { IsTrue (is_some result.late) → IsHeard W.told (moment (settling_of self.old) weather.old) }

@@ -113,7 +113,8 @@ fn crew<R: Threads + Wait + Sync>(
             ensures { IsFor turn.entry.now mine.number mine.end result.0 }
         { work(rt, alloc, turn, hall, mine, way, number) },
         || -> (Pass<Numbers>, u64)
-            requires { IsSync R.row × IsFor turn.now next others.end others × (next < others.end) × (last < others.end) × (root.hall ≡ hall.now) }
+            requires { IsSync R.row × IsFor turn.now next others.end others × (next < others.end) × (last < others.end)
+                × (root.hall ≡ hall.now) }
             ensures { IsFor turn.entry.now others.number others.end result.0 }
         { crew(rt, alloc, turn, hall, others, root, next, last) },
     );

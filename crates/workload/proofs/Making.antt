@@ -12,7 +12,14 @@ use Rattle.workload.specs.Calls.{call_by, call_of, root, writing}
 
 -- with such content the call is the workload's
 pub written : (piece : ℕ) (to content : List ℕ) → content ≡ replicate 6000 (piece % 256)
-    → ◌≡◌ {A = Call} (Write (record { file = to; offset = 4096 * (piece % 16); count = 6000; stable = FileSync; «data» = content }))
+    → ◌≡◌ {A = Call} (Write (record {
+      file = to;
+      offset = 4096 * (piece % 16);
+      count = 6000;
+      stable = FileSync;
+      «data» =
+          content;
+    }))
     (writing piece to)
 written piece to content e = ap (λ (l : List ℕ). Write (record {
   file = to;

@@ -1,6 +1,7 @@
 //! Reading items from the front of a text.
 
-ghost use Rattle.std.specs.Prelude.{◌≡◌, ◌<◌, ◌≤◌, ◌↔◌, ◌⊎◌, ◌+◌, length, take, drop, Err, IsSome, IfSome, OnSome, IsNone, IfNone, IfOk, IfErr, IsErr, OnErr, OnOk, IsOk};
+ghost use Rattle.std.specs.Prelude.{◌≡◌, ◌<◌, ◌≤◌, ◌↔◌, ◌⊎◌, ◌+◌, length, take, drop, Err, IsSome, IfSome, OnSome, IsNone};
+ghost use Rattle.std.specs.Prelude.{IfNone, IfOk, IfErr, IsErr, OnErr, OnOk, IsOk};
 ghost use Rattle.xdr_grammar.specs.Items.{word, hyper, truth, pick, fixed, opaque};
 ghost use Rattle.xdr_grammar.specs.Items.{padding as padding_of};
 ghost use Rattle.xdr_grammar.specs.Reading.{Gives};

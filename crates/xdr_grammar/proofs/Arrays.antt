@@ -1,5 +1,6 @@
 -- The laws of arrays.
-use Rattle.std.proofs.Common.{◌≡◌, ℕ, zero, suc, List, [], ◌∷◌, ◌++◌, length, Result, Ok, Err, refl, ap, subst, ◌∙◌, inl, inr, append_assoc, length-append, arith}
+use Rattle.std.proofs.Common.{◌≡◌, ℕ, zero, suc, List, [], ◌∷◌, ◌++◌, length, Result, Ok, Err, refl, ap, subst, ◌∙◌, inl, inr}
+use Rattle.std.proofs.Common.{append_assoc, length-append, arith}
 use Rattle.std.specs.Prelude.{nat_le}
 use Rattle.std.specs.List.{All, flat_map, sum_by}
 use Rattle.std.proofs.lemmas.List.Concat.{flat_map-cons}
@@ -26,11 +27,17 @@ item_of n g x = and_then (read_items n g x.1) (others_of x.0)
 two_fronts : (bytes a after b rest : List ℕ) → bytes ≡ a ++ after → after ≡ b ++ rest → bytes ≡ (a ++ b) ++ rest
 two_fronts bytes a after b rest p q = rw (p, q, append_assoc a b rest) refl
 
-read_items-found : {A : Type 0} (g : Grammar A) → Laws g → (n : ℕ) (bytes : List ℕ) (xs : List A) (rest : List ℕ) → read_items n g bytes ≡ Ok (xs, rest) → Found (items n g) bytes xs rest
+read_items-found : {A : Type 0} (g : Grammar A) → Laws g → (n : ℕ) (bytes : List ℕ) (xs : List A) (rest : List ℕ)
+    → read_items n g bytes ≡ Ok (xs, rest) → Found (items n g) bytes xs rest
 unfolding read_items items
 read_items-found {A = A} g laws zero bytes xs rest e =
     let made : ([], bytes) ≡ (xs, rest) = ok_is ([], bytes) (xs, rest) e in
-    subst (λ (z : List A × List ℕ). Found (items zero g) bytes z.0 z.1) made (record { front = []; parts = refl; spelled = ended [] refl })
+    subst (λ (z : List A × List ℕ). Found (items zero g) bytes z.0 z.1) made (record {
+      front = [];
+      parts = refl;
+      spelled =
+          ended [] refl;
+    })
 read_items-found {A = A} g laws (suc n) bytes xs rest e =
     let x = and_then-ok (g.read bytes) (item_of n g) (xs, rest) e in
     let y = and_then-ok (read_items n g x.0.1) (others_of x.0.0) (xs, rest) x.2 in
@@ -39,16 +46,24 @@ read_items-found {A = A} g laws (suc n) bytes xs rest e =
     let made : (x.0.0 ∷ y.0.0, y.0.1) ≡ (xs, rest) = ok_is (x.0.0 ∷ y.0.0, y.0.1) (xs, rest) y.2 in
     let text : List ℕ = f.front ++ s.front in
     subst (λ (z : List A × List ℕ). Found (items (suc n) g) bytes z.0 z.1) made
-    (record { front = text; parts = two_fronts bytes f.front x.0.1 s.front y.0.1 f.parts s.parts; spelled = item n x.0.0 y.0.0 text f.front s.front (refl {a = text}) f.spelled s.spelled })
+    (record {
+      front = text;
+      parts = two_fronts bytes f.front x.0.1 s.front y.0.1 f.parts s.parts;
+      spelled =
+          item n x.0.0 y.0.0 text f.front s.front (refl {a = text}) f.spelled s.spelled;
+    })
 
-read_items-again : {A : Type 0} (g : Grammar A) → Laws g → (n : ℕ) (xs : List A) (front : List ℕ) → SpellsItems g n xs front → (rest : List ℕ) → read_items n g (front ++ rest) ≡ Ok (xs, rest)
+read_items-again : {A : Type 0} (g : Grammar A) → Laws g → (n : ℕ) (xs : List A) (front : List ℕ) → SpellsItems g n xs front
+    → (rest : List ℕ) → read_items n g (front ++ rest) ≡ Ok (xs, rest)
 unfolding read_items
 read_items-again g laws _ _ _ (ended front e) rest = rw e refl
 read_items-again g laws _ _ _ (item n x xs bytes front back parts s more) rest =
-    ap (λ x. and_then x (item_of n g)) (ap g.read (ap (λ (t : List ℕ). t ++ rest) parts ∙ append_assoc front back rest) ∙ laws.again x front (back ++ rest) s)
+    ap (λ x. and_then x (item_of n g)) (ap g.read (ap (λ (t : List ℕ). t ++ rest) parts ∙ append_assoc front back rest)
+    ∙ laws.again x front (back ++ rest) s)
     ∙ ap (λ r. and_then r (others_of x)) (read_items-again g laws n xs back more rest)
 
-read_items-breaks : {A : Type 0} (g : Grammar A) → Laws g → (n : ℕ) (bytes : List ℕ) (fault : XdrFault) → read_items n g bytes ≡ Err fault → BreaksItems g fault n bytes
+read_items-breaks : {A : Type 0} (g : Grammar A) → Laws g → (n : ℕ) (bytes : List ℕ) (fault : XdrFault)
+    → read_items n g bytes ≡ Err fault → BreaksItems g fault n bytes
 unfolding read_items
 read_items-breaks g laws zero bytes fault e = absurd cc
 read_items-breaks g laws (suc n) bytes fault e = elim (and_then-err (g.read bytes) (item_of n g) fault e) [
@@ -61,14 +76,16 @@ read_items-breaks g laws (suc n) bytes fault e = elim (and_then-err (g.read byte
   ]
 ]
 
-read_items-broken : {A : Type 0} (g : Grammar A) → Laws g → (fault : XdrFault) (n : ℕ) (bytes : List ℕ) → BreaksItems g fault n bytes → read_items n g bytes ≡ Err fault
+read_items-broken : {A : Type 0} (g : Grammar A) → Laws g → (fault : XdrFault) (n : ℕ) (bytes : List ℕ)
+    → BreaksItems g fault n bytes → read_items n g bytes ≡ Err fault
 unfolding read_items
 read_items-broken g laws fault _ _ (in_item n bytes b) = ap (λ x. and_then x (item_of n g)) (laws.broken bytes fault b)
 read_items-broken g laws fault _ _ (behind n x bytes front back parts s b) =
     ap (λ x. and_then x (item_of n g)) (ap g.read parts ∙ laws.again x front back s)
     ∙ ap (λ r. and_then r (others_of x)) (read_items-broken g laws fault n back b)
 
-items-written : {A : Type 0} (g : Grammar A) → Laws g → (xs : List A) → All g.Fits xs → SpellsItems g (length xs) xs (flat_map g.spelling xs)
+items-written : {A : Type 0} (g : Grammar A) → Laws g → (xs : List A) → All g.Fits xs
+    → SpellsItems g (length xs) xs (flat_map g.spelling xs)
 items-written g laws [] h = ended [] refl
 items-written g laws (x ∷ xs) h =
     item (length xs) x xs (flat_map g.spelling (x ∷ xs)) (g.spelling x) (flat_map g.spelling xs) (flat_map-cons g.spelling x xs)
@@ -78,13 +95,16 @@ items-long : {A : Type 0} (g : Grammar A) (n : ℕ) (xs : List A) (front : List 
 items-long g _ _ _ (ended front e) = refl
 items-long g _ _ _ (item n x xs bytes front back parts s more) = ap suc (items-long g n xs back more)
 
-items-all : {A : Type 0} (g : Grammar A) → Laws g → (n : ℕ) (xs : List A) (front : List ℕ) → SpellsItems g n xs front → AreBytes front → All g.Fits xs
+items-all : {A : Type 0} (g : Grammar A) → Laws g → (n : ℕ) (xs : List A) (front : List ℕ) → SpellsItems g n xs front
+    → AreBytes front → All g.Fits xs
 items-all g laws _ _ _ (ended front e) bytes = All-nil g.Fits
 items-all g laws _ _ _ (item n x xs text front back parts s more) bytes =
     let both : AreBytes (front ++ back) = subst AreBytes parts bytes in
-    All-cons g.Fits x xs (laws.fits x front (AreBytes-front front back both) s) (items-all g laws n xs back more (AreBytes-back front back both))
+    All-cons g.Fits x xs (laws.fits x front (AreBytes-front front back both) s)
+    (items-all g laws n xs back more (AreBytes-back front back both))
 
-items-sized : {A : Type 0} (g : Grammar A) → Laws g → (n : ℕ) (xs : List A) (front : List ℕ) → SpellsItems g n xs front → length front ≡ sum_by g.size xs
+items-sized : {A : Type 0} (g : Grammar A) → Laws g → (n : ℕ) (xs : List A) (front : List ℕ) → SpellsItems g n xs front
+    → length front ≡ sum_by g.size xs
 items-sized g laws _ _ _ (ended front e) = ap length e
 items-sized g laws _ _ _ (item n x xs text front back parts s more) =
     let one = laws.sized x front s in

@@ -1,5 +1,6 @@
 -- The laws of grammars among which an earlier item chooses, and of optional data.
-use Rattle.std.proofs.Common.{◌≡◌, ℕ, Bool, true, false, List, ◌++◌, Option, Some, None, is_some, Result, Ok, Err, refl, sym, ap, ◌∙◌, inl, inr}
+use Rattle.std.proofs.Common.{◌≡◌, ℕ, Bool, true, false, List, ◌++◌, Option, Some, None, is_some, Result, Ok, Err, refl, sym, ap}
+use Rattle.std.proofs.Common.{◌∙◌, inl, inr}
 use Rattle.xdr_grammar.specs.declared.fault.XdrFault.{XdrFault}
 use Rattle.xdr_grammar.specs.Grammar.{Grammar, ◌at◌, done, and_then}
 use Rattle.xdr_grammar.specs.Items.{truth}
@@ -32,7 +33,8 @@ made_is : {A B : Type 0} (make : B → A) (x : B × List ℕ) (y : A × List ℕ
 made_is make x y e = cc
 
 in_case-found : {A B : Type 0} (make : B → A) (content : A → Option B) (g : Grammar B) → Laws g
-    → (bytes : List ℕ) (a : A) (rest : List ℕ) → (in_case make content g).read bytes ≡ Ok (a, rest) → Found (in_case make content g) bytes a rest
+    → (bytes : List ℕ) (a : A) (rest : List ℕ) → (in_case make content g).read bytes ≡ Ok (a, rest)
+    → Found (in_case make content g) bytes a rest
 in_case-found {A = A} make content g laws bytes a rest e =
     let x = and_then-ok (g.read bytes) (into_case make) (a, rest) e in
     let made : (a, rest) ≡ (make x.0.0, x.0.1) = made_is make x.0 (a, rest) x.2 in
@@ -55,7 +57,8 @@ in_case-breaks make content g laws bytes fault e = elim (and_then-err (g.read by
   | inr x ↦ let never = x.2 in absurd cc
 ]
 
-pub in_case-laws : {A B : Type 0} (make : B → A) (content : A → Option B) (g : Grammar B) → Laws g → GivesBack make content → Laws (in_case make content g)
+pub in_case-laws : {A B : Type 0} (make : B → A) (content : A → Option B) (g : Grammar B) → Laws g → GivesBack make content
+    → Laws (in_case make content g)
 in_case-laws {A = A} make content g laws back = record {
   found = in_case-found make content g laws;
   again = in_case-again make content g laws;
@@ -74,7 +77,8 @@ pub optional-laws : {A : Type 0} (g : Grammar A) → Laws g → Laws (optional g
 optional-laws {A = A} g laws =
     both-laws (truth at is_some) (λ there. either there (in_case Some (λ o. o) g) (done None))
     truth-laws
-    (λ there. either-laws there (in_case Some (λ o. o) g) (done None) (in_case-laws Some (λ o. o) g laws (λ b. refl)) (done-laws None))
+    (λ there. either-laws there (in_case Some (λ o. o) g) (done None) (in_case-laws Some (λ o. o) g laws (λ b. refl))
+    (done-laws None))
     (λ there front s. kept there)
   where
     kept : (there : Bool) → AllSpelled (either there (in_case Some (λ o. o) g) (done None)) (λ r. is_some r ≡ there)

@@ -1,5 +1,6 @@
 -- The laws of one grammar behind another.
-use Rattle.std.proofs.Common.{◌≡◌, ℕ, List, [], ◌++◌, length, Result, Ok, Err, refl, sym, ap, subst, ◌∙◌, inl, inr, append_assoc, length-append, arith}
+use Rattle.std.proofs.Common.{◌≡◌, ℕ, List, [], ◌++◌, length, Result, Ok, Err, refl, sym, ap, subst, ◌∙◌, inl, inr, append_assoc}
+use Rattle.std.proofs.Common.{length-append, arith}
 use Rattle.xdr_grammar.specs.declared.fault.XdrFault.{XdrFault}
 use Rattle.xdr_grammar.specs.Grammar.{Grammar, Part, ◌>>=◌, done, and_then, SpellsBoth, BreaksBoth}
 use Rattle.xdr_grammar.specs.Grammar.BreaksBoth.{in_first, in_second}
@@ -10,7 +11,8 @@ use Rattle.xdr_grammar.proofs.Steps.{and_then-ok, and_then-err, ok_is, AreBytes-
 abbrev behind : {R A : Type 0} → (A → Grammar R) → A × List ℕ → Result (R × List ℕ) XdrFault
 behind next x = (next x.0).read x.1
 
-both-found : {R A : Type 0} (part : Part R A) (next : A → Grammar R) → Laws part.grammar → ((a : A) → Laws (next a)) → Keeps part next
+both-found : {R A : Type 0} (part : Part R A) (next : A → Grammar R) → Laws part.grammar → ((a : A) → Laws (next a))
+    → Keeps part next
     → (bytes : List ℕ) (r : R) (rest : List ℕ) → (part >>= next).read bytes ≡ Ok (r, rest) → Found (part >>= next) bytes r rest
 both-found {A = A} part next first second keeps bytes r rest e =
     let x = and_then-ok (part.grammar.read bytes) (behind next) (r, rest) e in
@@ -32,8 +34,10 @@ both-found {A = A} part next first second keeps bytes r rest e =
 both-again : {R A : Type 0} (part : Part R A) (next : A → Grammar R) → Laws part.grammar → ((a : A) → Laws (next a))
     → (r : R) (front rest : List ℕ) → SpellsBoth part next r front → (part >>= next).read (front ++ rest) ≡ Ok (r, rest)
 both-again part next first second r front rest s =
-    let text : front ++ rest ≡ s.front ++ (s.back ++ rest) = ap (λ (t : List ℕ). t ++ rest) s.parts ∙ append_assoc s.front s.back rest in
-    let one : part.grammar.read (front ++ rest) ≡ Ok (part.get r, s.back ++ rest) = ap part.grammar.read text ∙ first.again (part.get r) s.front (s.back ++ rest) s.first in
+    let text : front ++ rest ≡ s.front ++ (s.back ++ rest) = ap (λ (t : List ℕ). t ++ rest) s.parts
+    ∙ append_assoc s.front s.back rest in
+    let one : part.grammar.read (front ++ rest) ≡ Ok (part.get r, s.back ++ rest) = ap part.grammar.read text
+    ∙ first.again (part.get r) s.front (s.back ++ rest) s.first in
     ap (λ x. and_then x (behind next)) one ∙ (second (part.get r)).again r s.back rest s.second
 
 both-breaks : {R A : Type 0} (part : Part R A) (next : A → Grammar R) → Laws part.grammar → ((a : A) → Laws (next a))
@@ -51,7 +55,8 @@ both-broken part next first second bytes fault (in_first b) = ap (λ x. and_then
 both-broken part next first second bytes fault (in_second a front back parts s b) =
     ap (λ x. and_then x (behind next)) (ap part.grammar.read parts ∙ first.again a front back s) ∙ (second a).broken back fault b
 
-pub both-laws : {R A : Type 0} (part : Part R A) (next : A → Grammar R) → Laws part.grammar → ((a : A) → Laws (next a)) → Keeps part next → Laws (part >>= next)
+pub both-laws : {R A : Type 0} (part : Part R A) (next : A → Grammar R) → Laws part.grammar → ((a : A) → Laws (next a))
+    → Keeps part next → Laws (part >>= next)
 both-laws part next first second keeps = record {
   found = both-found part next first second keeps;
   again = both-again part next first second;
@@ -80,7 +85,12 @@ pub done-laws : {R : Type 0} (v : R) → Laws (done v)
 done-laws {R = R} v = record {
   found = λ bytes r rest e.
       let same : (v, bytes) ≡ (r, rest) = ok_is (v, bytes) (r, rest) e in
-      record { front = []; parts = ap (λ (x : R × List ℕ). x.1) same; spelled = record { is = ap (λ (x : R × List ℕ). x.0) (sym same); empty = refl } };
+      record {
+        front = [];
+        parts = ap (λ (x : R × List ℕ). x.1) same;
+        spelled =
+            record { is = ap (λ (x : R × List ℕ). x.0) (sym same); empty = refl };
+      };
   again = λ r front rest s. rw (s.is, s.empty) refl;
   breaks = λ bytes fault e. absurd cc;
   broken = λ bytes fault b. absurd b;

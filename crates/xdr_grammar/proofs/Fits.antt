@@ -28,7 +28,11 @@ fixed_fits n part h = h
 
 pub opaque_fits : (max : ℕ) (part : List ℕ) → length part ≤ max → length part < 2 ^ 32 → (opaque max).Fits part
 unfolding opaque word fixed
-opaque_fits max part within h = record { first = record { fits = h; passes = le-leb (length part) max within }; second = record { first = refl; second = refl } }
+opaque_fits max part within h = record {
+  first = record { fits = h; passes = le-leb (length part) max within };
+  second =
+      record { first = refl; second = refl };
+}
 
 pub none_fits : {A : Type 0} (g : Grammar A) → (optional g).Fits None
 none_fits g = record { first = truth_fits false; second = refl }

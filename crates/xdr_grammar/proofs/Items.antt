@@ -1,14 +1,17 @@
 -- The laws of the items.
-use Rattle.std.proofs.Common.{◌≡◌, ℕ, zero, suc, ◌+◌, ◌≤◌, Bool, true, false, ◌&&◌, List, [], ◌++◌, length, take, drop, replicate, Result, Ok, Err, refl, sym, ap, subst, ◌∙◌, inl, inr, append_assoc, length-append, arith}
+use Rattle.std.proofs.Common.{◌≡◌, ℕ, zero, suc, ◌+◌, ◌≤◌, Bool, true, false, ◌&&◌, List, [], ◌++◌, length, take, drop, replicate}
+use Rattle.std.proofs.Common.{Result, Ok, Err, refl, sym, ap, subst, ◌∙◌, inl, inr, append_assoc, length-append, arith}
 use Rattle.std.specs.Prelude.{if◌then◌else◌, ◌==◌, nat_lt, nat_le}
 use Rattle.std.proofs.lemmas.Bool.{ltb-true, ltb-false, lt-ltb, le-ltb, leb-true}
-use Rattle.std.proofs.lemmas.List.{append-nil, take_at, drop_at, take-append-drop, drop-drop, length-take, length-drop, length-replicate}
+use Rattle.std.proofs.lemmas.List.{append-nil, take_at, drop_at, take-append-drop, drop-drop, length-take, length-drop}
+use Rattle.std.proofs.lemmas.List.{length-replicate}
 use Rattle.byteorder.specs.Endian.{big_number, big_bytes}
 use Rattle.byteorder.specs.Numbers.{big_from-lt, big_number-reads_back, length-bytes_high_first}
 use Rattle.xdr_grammar.specs.declared.fault.XdrFault.{XdrFault}
 use Rattle.xdr_grammar.specs.declared.fault.XdrFault.TheVariants.{Short, TooLong, BadBool, BadEnum}
 use Rattle.xdr_grammar.specs.Grammar.{Grammar, ◌at◌, ◌>>=◌, done, and_then}
-use Rattle.xdr_grammar.specs.Items.{IsShort, SpellsNumber, number, word, hyper, SpellsTested, BreaksTested, tested, pick, bool_number, truth, padding, SpellsFixed, fixed, opaque}
+use Rattle.xdr_grammar.specs.Items.{IsShort, SpellsNumber, number, word, hyper, SpellsTested, BreaksTested, tested, pick}
+use Rattle.xdr_grammar.specs.Items.{bool_number, truth, padding, SpellsFixed, fixed, opaque}
 use Rattle.xdr_grammar.specs.Items.BreaksTested.{in_item, in_test}
 use Rattle.xdr_grammar.specs.Laws.{Laws, Found}
 use Rattle.xdr_grammar.proofs.Steps.{and_then-ok, and_then-err, refused_not, refused, passed, passed_not}
@@ -16,7 +19,8 @@ use Rattle.xdr_grammar.proofs.Composed.{both-laws, done-laws}
 
 -- ---- numbers
 
-number-found : (n : ℕ) (bytes : List ℕ) (v : ℕ) (rest : List ℕ) → (number n).read bytes ≡ Ok (v, rest) → Found (number n) bytes v rest
+number-found : (n : ℕ) (bytes : List ℕ) (v : ℕ) (rest : List ℕ) → (number n).read bytes ≡ Ok (v, rest)
+    → Found (number n) bytes v rest
 number-found n bytes v rest e =
     let g = refused_not (nat_lt (length bytes) n) Short (big_number n (take n bytes), drop n bytes) (v, rest) e in
     let enough : n ≤ length bytes = ltb-false _ _ g.0 in
@@ -71,12 +75,17 @@ abbrev under : {A : Type 0} → (A → Bool) → XdrFault → A × List ℕ → 
 under test refusal x = if test x.0 then Ok x else Err refusal
 
 tested-found : {A : Type 0} (g : Grammar A) (test : A → Bool) (refusal : XdrFault) → Laws g
-    → (bytes : List ℕ) (v : A) (rest : List ℕ) → (tested g test refusal).read bytes ≡ Ok (v, rest) → Found (tested g test refusal) bytes v rest
+    → (bytes : List ℕ) (v : A) (rest : List ℕ) → (tested g test refusal).read bytes ≡ Ok (v, rest)
+    → Found (tested g test refusal) bytes v rest
 tested-found {A = A} g test refusal laws bytes v rest e =
     let x = and_then-ok (g.read bytes) (under test refusal) (v, rest) e in
     let p = passed (test x.0.0) refusal x.0 (v, rest) x.2 in
     let f = laws.found bytes x.0.0 x.0.1 x.1 in
-    subst (λ (y : A × List ℕ). Found (tested g test refusal) bytes y.0 y.1) p.1 (record { front = f.front; parts = f.parts; spelled = record { spelled = f.spelled; passes = p.0 } })
+    subst (λ (y : A × List ℕ). Found (tested g test refusal) bytes y.0 y.1) p.1 (record {
+      front = f.front;
+      parts = f.parts;
+      spelled = record { spelled = f.spelled; passes = p.0 };
+    })
 
 tested-again : {A : Type 0} (g : Grammar A) (test : A → Bool) (refusal : XdrFault) → Laws g
     → (v : A) (front rest : List ℕ) → SpellsTested g test v front → (tested g test refusal).read (front ++ rest) ≡ Ok (v, rest)
@@ -84,7 +93,8 @@ tested-again g test refusal laws v front rest s =
     ap (λ x. and_then x (under test refusal)) (laws.again v front rest s.spelled) ∙ rw s.passes refl
 
 tested-breaks : {A : Type 0} (g : Grammar A) (test : A → Bool) (refusal : XdrFault) → Laws g
-    → (bytes : List ℕ) (fault : XdrFault) → (tested g test refusal).read bytes ≡ Err fault → BreaksTested g test refusal bytes fault
+    → (bytes : List ℕ) (fault : XdrFault) → (tested g test refusal).read bytes ≡ Err fault
+    → BreaksTested g test refusal bytes fault
 tested-breaks g test refusal laws bytes fault e = elim (and_then-err (g.read bytes) (under test refusal) fault e) [
   | inl here ↦ in_item (laws.breaks bytes fault here)
   | inr x ↦
@@ -94,7 +104,8 @@ tested-breaks g test refusal laws bytes fault e = elim (and_then-err (g.read byt
 ]
 
 tested-broken : {A : Type 0} (g : Grammar A) (test : A → Bool) (refusal : XdrFault) → Laws g
-    → (bytes : List ℕ) (fault : XdrFault) → BreaksTested g test refusal bytes fault → (tested g test refusal).read bytes ≡ Err fault
+    → (bytes : List ℕ) (fault : XdrFault) → BreaksTested g test refusal bytes fault
+    → (tested g test refusal).read bytes ≡ Err fault
 tested-broken g test refusal laws bytes fault (in_item b) = ap (λ x. and_then x (under test refusal)) (laws.broken bytes fault b)
 tested-broken g test refusal laws bytes fault (in_test a front rest parts s fails is) =
     ap (λ x. and_then x (under test refusal)) (ap g.read parts ∙ laws.again a front rest s) ∙ rw (fails, is) refl
@@ -136,19 +147,27 @@ fixed-found n bytes part rest e =
     let g = refused_not (nat_lt (length bytes) (n + p)) Short (take n bytes, drop (n + p) bytes) (part, rest) e in
     let enough : n + p ≤ length bytes = ltb-false _ _ g.0 in
     let pad = take p (drop n bytes) in
-    let inner : drop n bytes ≡ pad ++ drop (n + p) bytes = sym (take-append-drop p (drop n bytes)) ∙ ap (λ (t : List ℕ). pad ++ t) (drop-drop p n bytes) in
-    let outer : bytes ≡ (take n bytes ++ pad) ++ drop (n + p) bytes = sym (take-append-drop n bytes) ∙ ap (λ (t : List ℕ). take n bytes ++ t) inner ∙ sym (append_assoc (take n bytes) pad (drop (n + p) bytes)) in
+    let inner : drop n bytes ≡ pad ++ drop (n + p) bytes = sym (take-append-drop p (drop n bytes))
+    ∙ ap (λ (t : List ℕ). pad ++ t) (drop-drop p n bytes) in
+    let outer : bytes ≡ (take n bytes ++ pad) ++ drop (n + p) bytes = sym (take-append-drop n bytes)
+    ∙ ap (λ (t : List ℕ). take n bytes ++ t) inner ∙ sym (append_assoc (take n bytes) pad (drop (n + p) bytes)) in
     let part_long : length (take n bytes) ≡ n = omega (arith, length-take n bytes) in
     let pad_long : length pad ≡ p = omega (arith, length-take p (drop n bytes), length-drop n bytes) in
-    subst (λ (y : List ℕ × List ℕ). Found (fixed n) bytes y.0 y.1) g.1 (record { front = take n bytes ++ pad; parts = outer; spelled = record { pad = pad; part_long = part_long; pad_long = pad_long; parts = refl } })
+    subst (λ (y : List ℕ × List ℕ). Found (fixed n) bytes y.0 y.1) g.1 (record {
+      front = take n bytes ++ pad;
+      parts = outer;
+      spelled = record { pad = pad; part_long = part_long; pad_long = pad_long; parts = refl };
+    })
 
 fixed-again : (n : ℕ) (part front rest : List ℕ) → SpellsFixed n part front → (fixed n).read (front ++ rest) ≡ Ok (part, rest)
 unfolding fixed
 fixed-again n part front rest s =
     let p = padding n in
     let whole_long : length (part ++ s.pad) ≡ n + p = omega (arith, length-append part s.pad, s.part_long, s.pad_long) in
-    let enough : nat_lt (length ((part ++ s.pad) ++ rest)) (n + p) ≡ false = le-ltb _ _ (omega (arith, length-append (part ++ s.pad) rest)) in
-    let front_is : take n ((part ++ s.pad) ++ rest) ≡ part = ap (take n) (append_assoc part s.pad rest) ∙ take_at part (s.pad ++ rest) n s.part_long in
+    let enough : nat_lt (length ((part ++ s.pad) ++ rest)) (n + p) ≡ false =
+    le-ltb _ _ (omega (arith, length-append (part ++ s.pad) rest)) in
+    let front_is : take n ((part ++ s.pad) ++ rest) ≡ part = ap (take n) (append_assoc part s.pad rest)
+    ∙ take_at part (s.pad ++ rest) n s.part_long in
     let rest_is : drop (n + p) ((part ++ s.pad) ++ rest) ≡ rest = drop_at (part ++ s.pad) rest (n + p) whole_long in
     ap (λ (t : List ℕ). (fixed n).read (t ++ rest)) s.parts ∙ rw (enough, front_is, rest_is) refl
 
@@ -163,7 +182,13 @@ fixed-laws n = record {
   broken = λ bytes fault b.
       let short : nat_lt (length bytes) (n + padding n) ≡ true = lt-ltb _ _ b.short in
       rw (short, b.fault_is) refl;
-  written = λ part h. record { pad = replicate (padding n) 0; part_long = h; pad_long = length-replicate (padding n) 0; parts = refl };
+  written = λ part h. record {
+    pad = replicate (padding n) 0;
+    part_long = h;
+    pad_long = length-replicate (padding n) 0;
+    parts =
+        refl;
+  };
   fits = λ part front bytes s. s.part_long;
   sized = λ part front s. omega (arith, ap length s.parts, length-append part s.pad, s.part_long, s.pad_long);
 }

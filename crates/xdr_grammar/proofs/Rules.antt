@@ -18,20 +18,23 @@ use Rattle.xdr_grammar.proofs.Arrays.{items-laws, array-laws}
 
 -- ---- what each value that is spelled is
 
-pub both-spelled : {R A : Type 0} (part : Part R A) (next : A → Grammar R) (P : R → Type 0) → ((a : A) (front : List ℕ) → part.grammar.Spells a front → AllSpelled (next a) P) → AllSpelled (part >>= next) P
+pub both-spelled : {R A : Type 0} (part : Part R A) (next : A → Grammar R) (P : R → Type 0)
+    → ((a : A) (front : List ℕ) → part.grammar.Spells a front → AllSpelled (next a) P) → AllSpelled (part >>= next) P
 both-spelled part next P h r bytes s = h (part.get r) s.front s.first r s.back s.second
 
 pub done-spelled : {R : Type 0} (v : R) (P : R → Type 0) → P v → AllSpelled (done v) P
 done-spelled v P h r bytes s = rw s.is h
 
-pub either-spelled : {R : Type 0} (b : Bool) (g h : Grammar R) (P : R → Type 0) → (b ≡ true → AllSpelled g P) → (b ≡ false → AllSpelled h P) → AllSpelled (either b g h) P
+pub either-spelled : {R : Type 0} (b : Bool) (g h : Grammar R) (P : R → Type 0) → (b ≡ true → AllSpelled g P)
+    → (b ≡ false → AllSpelled h P) → AllSpelled (either b g h) P
 either-spelled true g h P first second = first refl
 either-spelled false g h P first second = second refl
 
 pub never-spelled : {R : Type 0} (fault : XdrFault) (P : R → Type 0) → AllSpelled (never fault) P
 never-spelled fault P r bytes s = absurd s
 
-pub in_case-spelled : {A B : Type 0} (make : B → A) (content : A → Option B) (g : Grammar B) (P : A → Type 0) → ((b : B) → P (make b)) → AllSpelled (in_case make content g) P
+pub in_case-spelled : {A B : Type 0} (make : B → A) (content : A → Option B) (g : Grammar B) (P : A → Type 0)
+    → ((b : B) → P (make b)) → AllSpelled (in_case make content g) P
 in_case-spelled make content g P h a bytes s = rw s.made (h s.value)
 
 both_true : (a b : Bool) → (a && b) ≡ true → (a ≡ true) × (b ≡ true)

@@ -1,5 +1,6 @@
 -- What a step of a reading says about its parts.
-use Rattle.std.proofs.Common.{◌≡◌, ℕ, zero, suc, Bool, true, false, ◌⊎◌, List, [], ◌∷◌, ◌++◌, Result, Ok, Err, refl, inl, inr, append_assoc, arith}
+use Rattle.std.proofs.Common.{◌≡◌, ℕ, zero, suc, Bool, true, false, ◌⊎◌, List, [], ◌∷◌, ◌++◌, Result, Ok, Err, refl, inl, inr}
+use Rattle.std.proofs.Common.{append_assoc, arith}
 use Rattle.std.specs.Prelude.{if◌then◌else◌}
 use Rattle.std.specs.List.{All}
 use Rattle.xdr_grammar.specs.declared.fault.XdrFault.{XdrFault}
@@ -7,12 +8,14 @@ use Rattle.xdr_grammar.specs.Grammar.{and_then}
 use Rattle.xdr_grammar.specs.Laws.{AreBytes}
 
 -- a reading that did not fail, step by step
-pub and_then-ok : {A B : Type 0} (r : Result A XdrFault) (f : A → Result B XdrFault) (y : B) → and_then r f ≡ Ok y → (x : A) × (r ≡ Ok x) × (f x ≡ Ok y)
+pub and_then-ok : {A B : Type 0} (r : Result A XdrFault) (f : A → Result B XdrFault) (y : B) → and_then r f ≡ Ok y → (x : A)
+    × (r ≡ Ok x) × (f x ≡ Ok y)
 and_then-ok (Ok x) f y e = (x, refl, e)
 and_then-ok (Err d) f y e = absurd cc
 
 -- a reading that failed, in its first step or behind it
-pub and_then-err : {A B : Type 0} (r : Result A XdrFault) (f : A → Result B XdrFault) (d : XdrFault) → and_then r f ≡ Err d → (r ≡ Err d) ⊎ ((x : A) × (r ≡ Ok x) × (f x ≡ Err d))
+pub and_then-err : {A B : Type 0} (r : Result A XdrFault) (f : A → Result B XdrFault) (d : XdrFault) → and_then r f ≡ Err d
+    → (r ≡ Err d) ⊎ ((x : A) × (r ≡ Ok x) × (f x ≡ Err d))
 and_then-err (Ok x) f d e = inr (x, refl, e)
 and_then-err (Err c) f d e = inl (cc)
 
@@ -52,7 +55,8 @@ AreBytes-back [] b h = h
 AreBytes-back (x ∷ a) b h = AreBytes-back a b (λ j. h (suc j))
 
 -- three fronts taken off a text, one behind another
-pub fronts : (bytes a after b others c rest : List ℕ) → bytes ≡ a ++ after → after ≡ b ++ others → others ≡ c ++ rest → bytes ≡ (a ++ (b ++ c)) ++ rest
+pub fronts : (bytes a after b others c rest : List ℕ) → bytes ≡ a ++ after → after ≡ b ++ others → others ≡ c ++ rest
+    → bytes ≡ (a ++ (b ++ c)) ++ rest
 fronts bytes a after b others c rest p q r = rw (p, q, r, append_assoc a (b ++ c) rest, append_assoc b c rest) refl
 
 -- three fronts of a text before the rest

@@ -1,5 +1,6 @@
 -- What is the whole text, and what follows from the laws of any grammar.
-use Rattle.std.proofs.Common.{◌≡◌, ℕ, zero, suc, ◌<◌, false, List, [], ◌++◌, length, Result, Ok, Err, refl, sym, ap, subst, ◌∙◌, inl, inr, length-append, arith}
+use Rattle.std.proofs.Common.{◌≡◌, ℕ, zero, suc, ◌<◌, false, List, [], ◌++◌, length, Result, Ok, Err, refl, sym, ap, subst, ◌∙◌}
+use Rattle.std.proofs.Common.{inl, inr, length-append, arith}
 use Rattle.std.specs.Prelude.{◌==◌}
 use Rattle.std.proofs.lemmas.Bool.{eqb-true, ne_eqb}
 use Rattle.std.proofs.lemmas.List.{append-nil, nil_from_length, append_cancel_right}
@@ -35,7 +36,8 @@ whole-again : {A : Type 0} (g : Grammar A) → Laws g → (v : A) (bytes : List 
 whole-again g laws v bytes s =
     ap (λ x. and_then x ending) (ap g.read (sym (append-nil bytes)) ∙ laws.again v bytes [] s)
 
-whole-breaks : {A : Type 0} (g : Grammar A) → Laws g → (bytes : List ℕ) (fault : XdrFault) → whole g bytes ≡ Err fault → BreaksWhole g bytes fault
+whole-breaks : {A : Type 0} (g : Grammar A) → Laws g → (bytes : List ℕ) (fault : XdrFault) → whole g bytes ≡ Err fault
+    → BreaksWhole g bytes fault
 whole-breaks g laws bytes fault e = elim (and_then-err (g.read bytes) ending fault e) [
   | inl here ↦ in_value (laws.breaks bytes fault here)
   | inr x ↦
@@ -44,7 +46,8 @@ whole-breaks g laws bytes fault e = elim (and_then-err (g.read bytes) ending fau
       behind x.0.0 f.front x.0.1 f.parts f.spelled (no_length (length x.0.1) p.0) p.1
 ]
 
-whole-broken : {A : Type 0} (g : Grammar A) → Laws g → (bytes : List ℕ) (fault : XdrFault) → BreaksWhole g bytes fault → whole g bytes ≡ Err fault
+whole-broken : {A : Type 0} (g : Grammar A) → Laws g → (bytes : List ℕ) (fault : XdrFault) → BreaksWhole g bytes fault
+    → whole g bytes ≡ Err fault
 whole-broken g laws bytes fault (in_value b) = ap (λ x. and_then x ending) (laws.broken bytes fault b)
 whole-broken g laws bytes fault (behind v front rest parts s more is) =
     let some : (length rest == 0) ≡ false = some_length (length rest) more in
@@ -62,7 +65,8 @@ whole-laws g laws = record {
 
 pub is_unambiguous : {A : Type 0} (g : Grammar A) → Laws g → IsUnambiguous g
 is_unambiguous {A = A} g laws v w front rest front' rest' s s' e =
-    let read : (v, rest) ≡ (w, rest') = ok_is (v, rest) (w, rest') (sym (laws.again v front rest s) ∙ ap g.read e ∙ laws.again w front' rest' s') in
+    let read : (v, rest) ≡ (w, rest') = ok_is (v, rest) (w, rest') (sym (laws.again v front rest s) ∙ ap g.read e
+    ∙ laws.again w front' rest' s') in
     let rests : rest ≡ rest' = ap (λ (x : A × List ℕ). x.1) read in
     record {
       same_value = ap (λ (x : A × List ℕ). x.0) read;

@@ -9,12 +9,14 @@ use Rattle.xdr_grammar.specs.Items.{word, tested}
 -- so many items, and no more
 pub data SpellsItems {A : Type 0} (g : Grammar A) : ℕ → List A → List ℕ → Type 0 where
   ended : (bytes : List ℕ) → bytes ≡ [] → SpellsItems g zero [] bytes
-  item : (n : ℕ) (x : A) (xs : List A) (bytes front back : List ℕ) → bytes ≡ front ++ back → g.Spells x front → SpellsItems g n xs back → SpellsItems g (suc n) (x ∷ xs) bytes
+  item : (n : ℕ) (x : A) (xs : List A) (bytes front back : List ℕ) → bytes ≡ front ++ back → g.Spells x front
+      → SpellsItems g n xs back → SpellsItems g (suc n) (x ∷ xs) bytes
 
 -- the fault is in the first item, or in one behind it
 pub data BreaksItems {A : Type 0} (g : Grammar A) (fault : XdrFault) : ℕ → List ℕ → Type 0 where
   in_item : (n : ℕ) (bytes : List ℕ) → g.Breaks bytes fault → BreaksItems g fault (suc n) bytes
-  behind : (n : ℕ) (x : A) (bytes front back : List ℕ) → bytes ≡ front ++ back → g.Spells x front → BreaksItems g fault n back → BreaksItems g fault (suc n) bytes
+  behind : (n : ℕ) (x : A) (bytes front back : List ℕ) → bytes ≡ front ++ back → g.Spells x front → BreaksItems g fault n back
+      → BreaksItems g fault (suc n) bytes
 
 pub record FitsItems {A : Type 0} (g : Grammar A) (n : ℕ) (xs : List A) : Type 0 where
   pub long : length xs ≡ n

@@ -40,7 +40,8 @@ pub record SpellsBoth {R A : Type 0} (part : Part R A) (next : A → Grammar R) 
 -- the part has the fault, or the part is whole and what follows it has the fault
 pub data BreaksBoth {R A : Type 0} (part : Part R A) (next : A → Grammar R) (bytes : List ℕ) (fault : XdrFault) : Type 0 where
   in_first : part.grammar.Breaks bytes fault → BreaksBoth part next bytes fault
-  in_second : (a : A) (front back : List ℕ) → bytes ≡ front ++ back → part.grammar.Spells a front → (next a).Breaks back fault → BreaksBoth part next bytes fault
+  in_second : (a : A) (front back : List ℕ) → bytes ≡ front ++ back → part.grammar.Spells a front → (next a).Breaks back fault
+      → BreaksBoth part next bytes fault
 
 pub record FitsBoth {R A : Type 0} (part : Part R A) (next : A → Grammar R) (r : R) : Type 0 where
   pub first : part.grammar.Fits (part.get r)

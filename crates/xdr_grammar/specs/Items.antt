@@ -1,5 +1,6 @@
 -- The items of XDR (RFC 4506, section 4). Each is as long as a multiple of four bytes.
-use Rattle.std.specs.Prelude.{◌≡◌, ℕ, ◌+◌, ◌-◌, ◌%◌, ◌^◌, ◌<◌, Bool, true, false, ◌&&◌, if◌then◌else◌, ◌==◌, nat_lt, nat_le, IsTrue, IsFalse, List, ◌++◌, length, take, drop, replicate, Ok, Err}
+use Rattle.std.specs.Prelude.{◌≡◌, ℕ, ◌+◌, ◌-◌, ◌%◌, ◌^◌, ◌<◌, Bool, true, false, ◌&&◌, if◌then◌else◌, ◌==◌, nat_lt, nat_le}
+use Rattle.std.specs.Prelude.{IsTrue, IsFalse, List, ◌++◌, length, take, drop, replicate, Ok, Err}
 use Rattle.byteorder.specs.Endian.{big_number, big_bytes}
 use Rattle.xdr_grammar.specs.declared.fault.XdrFault.{XdrFault}
 use Rattle.xdr_grammar.specs.declared.fault.XdrFault.TheVariants.{Short, TooLong, BadBool, BadEnum}
@@ -38,9 +39,11 @@ pub record SpellsTested {A : Type 0} (g : Grammar A) (test : A → Bool) (a : A)
   pub spelled : g.Spells a bytes
   pub passes : IsTrue (test a)
 
-pub data BreaksTested {A : Type 0} (g : Grammar A) (test : A → Bool) (refusal : XdrFault) (bytes : List ℕ) (fault : XdrFault) : Type 0 where
+pub data BreaksTested {A : Type 0} (g : Grammar A) (test : A → Bool) (refusal : XdrFault) (bytes : List ℕ)
+    (fault : XdrFault) : Type 0 where
   in_item : g.Breaks bytes fault → BreaksTested g test refusal bytes fault
-  in_test : (a : A) (front rest : List ℕ) → bytes ≡ front ++ rest → g.Spells a front → IsFalse (test a) → fault ≡ refusal → BreaksTested g test refusal bytes fault
+  in_test : (a : A) (front rest : List ℕ) → bytes ≡ front ++ rest → g.Spells a front → IsFalse (test a) → fault ≡ refusal
+      → BreaksTested g test refusal bytes fault
 
 pub record FitsTested {A : Type 0} (g : Grammar A) (test : A → Bool) (a : A) : Type 0 where
   pub fits : g.Fits a

@@ -36,7 +36,8 @@ pub record IsOneSpelling {A : Type 0} (v w : A) (front rest front' rest' : List 
   pub same_rest : rest ≡ rest'
 
 abbrev pub IsUnambiguous : {A : Type 0} → Grammar A → Type 0
-IsUnambiguous {A = A} g = (v w : A) (front rest front' rest' : List ℕ) → g.Spells v front → g.Spells w front' → front ++ rest ≡ front' ++ rest' → IsOneSpelling v w front rest front' rest'
+IsUnambiguous {A = A} g = (v w : A) (front rest front' rest' : List ℕ) → g.Spells v front → g.Spells w front'
+    → front ++ rest ≡ front' ++ rest' → IsOneSpelling v w front rest front' rest'
 
 -- what is written is read back, with what follows it
 abbrev pub IsReadBack : {A : Type 0} → Grammar A → Type 0
@@ -44,7 +45,8 @@ IsReadBack {A = A} g = (v : A) (rest : List ℕ) → g.Fits v → g.read (g.spel
 
 -- what is read takes its size
 abbrev pub TakesSize : {A : Type 0} → Grammar A → Type 0
-TakesSize {A = A} g = (bytes : List ℕ) (v : A) (rest : List ℕ) → g.read bytes ≡ Ok (v, rest) → length bytes ≡ g.size v + length rest
+TakesSize {A = A} g = (bytes : List ℕ) (v : A) (rest : List ℕ) → g.read bytes ≡ Ok (v, rest)
+    → length bytes ≡ g.size v + length rest
 
 -- ---- what composing asks
 

@@ -15,7 +15,8 @@ whole g bytes = and_then (g.read bytes) (λ x. ended x.0 x.1)
 -- the fault is in the value, or bytes remain behind it
 pub data BreaksWhole {A : Type 0} (g : Grammar A) (bytes : List ℕ) (fault : XdrFault) : Type 0 where
   in_value : g.Breaks bytes fault → BreaksWhole g bytes fault
-  behind : (v : A) (front rest : List ℕ) → bytes ≡ front ++ rest → g.Spells v front → 0 < length rest → fault ≡ Trailing → BreaksWhole g bytes fault
+  behind : (v : A) (front rest : List ℕ) → bytes ≡ front ++ rest → g.Spells v front → 0 < length rest → fault ≡ Trailing
+      → BreaksWhole g bytes fault
 
 -- what holds of a grammar over whole texts
 pub record WholeLaws {A : Type 0} (g : Grammar A) : Type 0 where

@@ -17,11 +17,16 @@ put_in-requires-clause-within c = omega (arith, c.find_in-here.ensures.within, c
 
 pub put_in-requires-clause-nearly : goal.put_in-requires-clause-nearly
 put_in-requires-clause-nearly c =
-    (grafted c.args.view.now _ c.args.at c.find_in-here.result c.find_past-past.result (bound_at c.args.key.now c.args.birth) c.args.child
-    c.requires.inner c.requires.behind c.requires.rules c.find_in-here.ensures c.find_past-past.ensures c.if-here-at.false c.if-past-at.false c.inner_cell-cell.ensures.cell c.inner_cell-cell.ensures.fits).1
+    (grafted c.args.view.now _ c.args.at c.find_in-here.result c.find_past-past.result (bound_at c.args.key.now c.args.birth)
+    c.args.child
+    c.requires.inner c.requires.behind c.requires.rules c.find_in-here.ensures c.find_past-past.ensures c.if-here-at.false
+    c.if-past-at.false c.inner_cell-cell.ensures.cell c.inner_cell-cell.ensures.fits).1
 
 pub returns-in-Ok : goal.returns-in-Ok
 returns-in-Ok c =
-    let done = grafted c.args.view.now _ c.args.at c.find_in-here.result c.find_past-past.result (bound_at c.args.key.now c.args.birth) c.args.child
-    c.requires.inner c.requires.behind c.requires.rules c.find_in-here.ensures c.find_past-past.ensures c.if-here-at.false c.if-past-at.false c.inner_cell-cell.ensures.cell c.inner_cell-cell.ensures.fits in
-    made_any c.args.view.now.level (λ cells. cells ≡ insert c.args.view.now.cells c.args.at (inner_entry c.args.key.now c.args.birth c.args.child)) _ c.in-Ok.edited done.0 done.1 c.in-Ok.ensures
+    let done = grafted c.args.view.now _ c.args.at c.find_in-here.result c.find_past-past.result
+    (bound_at c.args.key.now c.args.birth) c.args.child
+    c.requires.inner c.requires.behind c.requires.rules c.find_in-here.ensures c.find_past-past.ensures c.if-here-at.false
+    c.if-past-at.false c.inner_cell-cell.ensures.cell c.inner_cell-cell.ensures.fits in
+    made_any c.args.view.now.level (λ cells. cells ≡ insert c.args.view.now.cells c.args.at
+    (inner_entry c.args.key.now c.args.birth c.args.child)) _ c.in-Ok.edited done.0 done.1 c.in-Ok.ensures

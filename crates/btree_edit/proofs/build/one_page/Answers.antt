@@ -6,12 +6,16 @@ use Rattle.btree_edit.proofs.build.one_page.Goals as goal
 
 pub add_run-requires-clause-rules : goal.add_run-requires-clause-rules
 add_run-requires-clause-rules c =
-    (first_run c.in_ok-builder.builder c.args.view.now c.level.result c.args.at (entry_of c.args.cell.now ∷ drop c.args.past c.args.view.now.cells) c.in_ok-builder.ensures c.level.ensures.level c.requires.rules).rules
+    (first_run c.in_ok-builder.builder c.args.view.now c.level.result c.args.at (entry_of c.args.cell.now
+    ∷ drop c.args.past c.args.view.now.cells) c.in_ok-builder.ensures c.level.ensures.level c.requires.rules).rules
 
 pub add-requires-clause-next : goal.add-requires-clause-next
 add-requires-clause-next c =
     let rest = entry_of c.args.cell.now ∷ drop c.args.past c.args.view.now.cells in
-    let first = first_run c.in_ok-builder.builder c.args.view.now c.level.result c.args.at rest c.in_ok-builder.ensures c.level.ensures.level c.requires.rules in
+    let first = first_run c.in_ok-builder.builder c.args.view.now c.level.result c.args.at rest c.in_ok-builder.ensures
+    c.level.ensures.level c.requires.rules in
     let begun : Begun c.add_run.new.self c.args.view.now (take c.args.at c.args.view.now.cells) rest =
-    subst (λ (p : Content). Begun p c.args.view.now (take c.args.at c.args.view.now.cells) rest) (sym c.add_run.ensures) first.begun in
-    (next_one c.add_run.new.self c.args.view.now (take c.args.at c.args.view.now.cells) (entry_of c.args.cell.now) (drop c.args.past c.args.view.now.cells) begun).0
+    subst (λ (p : Content). Begun p c.args.view.now (take c.args.at c.args.view.now.cells) rest) (sym c.add_run.ensures)
+    first.begun in
+    (next_one c.add_run.new.self c.args.view.now (take c.args.at c.args.view.now.cells) (entry_of c.args.cell.now)
+    (drop c.args.past c.args.view.now.cells) begun).0

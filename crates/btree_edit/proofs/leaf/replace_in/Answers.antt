@@ -30,11 +30,14 @@ pub put_in-requires-clause-nearly : goal.put_in-requires-clause-nearly
 put_in-requires-clause-nearly c =
     let h = rw c.as_slice.ensures at c.find_in-at.ensures in
     let k = rw c.as_slice-2.ensures at c.find_past.ensures in
-    (replaced_leaf c.args.q.now c.args.view.now _ c.find_in-at.result c.find_past.result c.requires.leaf c.requires.rules h k c.if-at-find_past.false c.cell_of.ensures.cell c.cell_of.ensures.fits).1
+    (replaced_leaf c.args.q.now c.args.view.now _ c.find_in-at.result c.find_past.result c.requires.leaf c.requires.rules h k
+    c.if-at-find_past.false c.cell_of.ensures.cell c.cell_of.ensures.fits).1
 
 pub returns : goal.returns
 returns c =
     let h = rw c.as_slice.ensures at c.find_in-at.ensures in
     let k = rw c.as_slice-2.ensures at c.find_past.ensures in
-    let done = replaced_leaf c.args.q.now c.args.view.now _ c.find_in-at.result c.find_past.result c.requires.leaf c.requires.rules h k c.if-at-find_past.false c.cell_of.ensures.cell c.cell_of.ensures.fits in
-    answered (ReplacesCell c.args.q.now c.args.view.now.cells) (IsMissing (quad_bound c.args.q.now) c.args.view.now.cells) c.args.view.now _ c.put_in.result c.requires.leaf done.0 done.1 c.put_in.ensures
+    let done = replaced_leaf c.args.q.now c.args.view.now _ c.find_in-at.result c.find_past.result c.requires.leaf
+    c.requires.rules h k c.if-at-find_past.false c.cell_of.ensures.cell c.cell_of.ensures.fits in
+    answered (ReplacesCell c.args.q.now c.args.view.now.cells) (IsMissing (quad_bound c.args.q.now) c.args.view.now.cells)
+    c.args.view.now _ c.put_in.result c.requires.leaf done.0 done.1 c.put_in.ensures

@@ -3,4 +3,5 @@ use Rattle.btree_page.proofs.builder.put_inner.Goals as goal
 
 pub returns-clause-items : goal.returns-clause-items
 returns-clause-items c =
-    joined c.args.out.now.items _ _ _ _ _ _ _ _ _ c.to_be_bytes.ensures c.to_be_bytes-2.ensures c.put_head.ensures.items c.extend_reserved.ensures.items c.extend_reserved-2.ensures.items
+    joined c.args.out.now.items _ _ _ _ _ _ _ _ _ c.to_be_bytes.ensures c.to_be_bytes-2.ensures c.put_head.ensures.items
+    c.extend_reserved.ensures.items c.extend_reserved-2.ensures.items

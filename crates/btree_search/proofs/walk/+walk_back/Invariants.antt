@@ -8,4 +8,5 @@ decreases-walk_back g l = l.view.now.level
 
 abbrev pub invariant-loop-back : goal.invariant-loop-back
 invariant-loop-back g l =
-    Passing (Behind (record { key = l.key; birth = l.birth }) l.view.cells (l.past - l.back)) (g.G.Pages.state l.initial.pages) (g.G.Pages.state l.pages) l.view
+    Passing (Behind (record { key = l.key; birth = l.birth }) l.view.cells (l.past - l.back)) (g.G.Pages.state l.initial.pages)
+    (g.G.Pages.state l.pages) l.view

@@ -6,7 +6,9 @@ use Rattle.nfs3_fits.proofs.entries.entries_plus_fit.Goals as goal
 
 pub loop-entry-preserved : goal.loop-entry-preserved
 loop-entry-preserved c =
-    All-more dir_entry_plus.Fits c.args.entries.now c.loop-entry.entry-index c.entry-item.result c.loop-entry-test.true c.loop-entry.invariant (subst dir_entry_plus.Fits c.entry-item.is c.dir_entry_plus_fits.ensures)
+    All-more dir_entry_plus.Fits c.args.entries.now c.loop-entry.entry-index c.entry-item.result c.loop-entry-test.true
+    c.loop-entry.invariant (subst dir_entry_plus.Fits c.entry-item.is c.dir_entry_plus_fits.ensures)
 
 pub returns : goal.returns
-returns c = subst (All dir_entry_plus.Fits) (take_all c.loop-entry.entry-index c.args.entries.now c.loop-entry-test.false) c.loop-entry.invariant
+returns c = subst (All dir_entry_plus.Fits) (take_all c.loop-entry.entry-index c.args.entries.now c.loop-entry-test.false)
+    c.loop-entry.invariant

@@ -44,7 +44,12 @@ returns-in-Mkdir c = rw c.in-Mkdir.is (record { value = c.in-Mkdir.ok; made = re
 
 pub returns-in-Symlink : goal.returns-in-Symlink
 unfolding ok_body
-returns-in-Symlink c = rw c.in-Symlink.is (record { value = c.in-Symlink.ok; made = refl; fits = c.create_fits-in-Symlink.ensures })
+returns-in-Symlink c = rw c.in-Symlink.is (record {
+  value = c.in-Symlink.ok;
+  made = refl;
+  fits =
+      c.create_fits-in-Symlink.ensures;
+})
 
 pub returns-in-Remove : goal.returns-in-Remove
 unfolding ok_body
@@ -68,7 +73,12 @@ returns-in-ReadDir c = rw c.in-ReadDir.is (record { value = c.in-ReadDir.ok; mad
 
 pub returns-in-ReadDirPlus : goal.returns-in-ReadDirPlus
 unfolding ok_body
-returns-in-ReadDirPlus c = rw c.in-ReadDirPlus.is (record { value = c.in-ReadDirPlus.ok; made = refl; fits = c.read_dir_plus_fits.ensures })
+returns-in-ReadDirPlus c = rw c.in-ReadDirPlus.is (record {
+  value = c.in-ReadDirPlus.ok;
+  made = refl;
+  fits =
+      c.read_dir_plus_fits.ensures;
+})
 
 pub returns-in-FsStat : goal.returns-in-FsStat
 unfolding ok_body

@@ -14,4 +14,5 @@ returns-clause-bad c = tells_bad c.args.procedure c.args.text.now c.read_whole.r
 
 pub returns-clause-writable : goal.returns-clause-writable
 returns-clause-writable c = λ short.
-    read_spelled c.args.procedure c.args.text.now c.read_whole.result c.requires (λ i. omega (arith, c.type_inv.text i)) (tells_read c.args.procedure c.args.text.now c.read_whole.result c.read_whole.ensures) short
+    read_spelled c.args.procedure c.args.text.now c.read_whole.result c.requires (λ i. omega (arith, c.type_inv.text i))
+    (tells_read c.args.procedure c.args.text.now c.read_whole.result c.read_whole.ensures) short

@@ -21,7 +21,9 @@ returns-then-succeeded c =
     let has : has_status (procedure_at r.procedure) ≡ true = cc in
     let ok : is_ok r.status ≡ true = cc in
     let parts = success_parts r c.requires has ok in
-    behind status (ok_body (said_by r.body)) (result_of r.procedure) r.status r.body (outcome_of r) c.args.out.now c.put_status.new.out c.put_body.new.out c.put_status.result c.put_body.result parts.text parts.size (search rules) c.put_status.ensures c.put_body.ensures
+    behind status (ok_body (said_by r.body)) (result_of r.procedure) r.status r.body (outcome_of r) c.args.out.now
+    c.put_status.new.out c.put_body.new.out c.put_status.result c.put_body.result parts.text parts.size (search rules)
+    c.put_status.ensures c.put_body.ensures
 
 pub returns-else-succeeded : goal.returns-else-succeeded
 returns-else-succeeded c =
@@ -30,5 +32,7 @@ returns-else-succeeded c =
     let has : has_status p ≡ true = cc in
     let failed : is_ok r.status ≡ false = cc in
     let parts = failure_parts r has failed in
-    behind status (refusal p) (result_of r.procedure) r.status (silence p) (outcome_of r) c.args.out.now c.put_status.new.out c.put_refusal.new.out c.put_status.result c.put_refusal.result parts.text parts.size (search rules) c.put_status.ensures
-    (subst (λ (q : Procedure). Puts (refusal q) (silence q) c.put_status.new.out c.put_refusal.new.out c.put_refusal.result) c.at-procedure.ensures c.put_refusal.ensures)
+    behind status (refusal p) (result_of r.procedure) r.status (silence p) (outcome_of r) c.args.out.now c.put_status.new.out
+    c.put_refusal.new.out c.put_status.result c.put_refusal.result parts.text parts.size (search rules) c.put_status.ensures
+    (subst (λ (q : Procedure). Puts (refusal q) (silence q) c.put_status.new.out c.put_refusal.new.out c.put_refusal.result)
+    c.at-procedure.ensures c.put_refusal.ensures)

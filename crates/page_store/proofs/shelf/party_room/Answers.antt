@@ -7,6 +7,10 @@ use Rattle.page_store.proofs.shelf.party_room.Goals as goal
 
 pub returns-in_ok-insert-clause-stay : goal.returns-in_ok-insert-clause-stay
 returns-in_ok-insert-clause-stay c =
-    stranger_put c.args.parties.now c.insert.new.self c.in-Some.involved.tid (sym c.contains_key.ensures ∙ c.if-not-contains_key.true)
-    (subst (λ (p : Party). Updates tid_cmp c.args.parties.now c.insert.new.self (c.in-Some.involved.tid.pass, c.in-Some.involved.tid.serial) (Some p))
+    stranger_put c.args.parties.now c.insert.new.self c.in-Some.involved.tid (sym c.contains_key.ensures
+    ∙ c.if-not-contains_key.true)
+    (subst (λ (p : Party). Updates tid_cmp c.args.parties.now c.insert.new.self (
+      c.in-Some.involved.tid.pass,
+      c.in-Some.involved.tid.serial,
+    ) (Some p))
     c.stranger.ensures c.in_ok-insert.ensures.updates)

@@ -21,10 +21,12 @@ returns-in_err-found g c =
 pub returns-then-is_some : goal.returns-then-is_some
 returns-then-is_some g c =
     let at = item_at c.args.parts.now c.loop-part.part-index c.part-item.result c.loop-part-test.true c.part-item.is in
-    looking_found _ _ _ _ _ _ _ at c.loop-part.invariant c.in_ok-found.found (sym c.is_some.ensures ∙ c.if-is_some.true) c.in_ok-found.ensures
+    looking_found _ _ _ _ _ _ _ at c.loop-part.invariant c.in_ok-found.found (sym c.is_some.ensures ∙ c.if-is_some.true)
+    c.in_ok-found.ensures
 
 pub loop-part-preserved : goal.loop-part-preserved
 loop-part-preserved g c =
     let at = item_at c.args.parts.now c.loop-part.part-index c.part-item.result c.loop-part-test.true c.part-item.is in
     rw add-one
-    (looking_more _ _ _ _ _ _ _ at c.loop-part.invariant c.in_ok-found.found (sym c.is_some.ensures ∙ c.if-is_some.false) c.in_ok-found.ensures)
+    (looking_more _ _ _ _ _ _ _ at c.loop-part.invariant c.in_ok-found.found (sym c.is_some.ensures ∙ c.if-is_some.false)
+    c.in_ok-found.ensures)

@@ -7,4 +7,5 @@ use Rattle.plain_nodes.proofs.nodes.copy_map.Given as goal
 
 -- what a number has is in the copy, or is left
 abbrev pub invariant-loop-fileid : goal.invariant-loop-fileid
-invariant-loop-fileid l = (q : ℕ) → get nat_cmp l.map q ≡ option_or (get nat_cmp l.copy q) (lookup (is_at (nat_cmp q)) l.fileid-iterator)
+invariant-loop-fileid l = (q : ℕ) → get nat_cmp l.map q ≡ option_or (get nat_cmp l.copy q)
+    (lookup (is_at (nat_cmp q)) l.fileid-iterator)

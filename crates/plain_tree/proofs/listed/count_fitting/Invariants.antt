@@ -6,5 +6,6 @@ use Rattle.plain_tree.proofs.listed.count_fitting.Given as goal
 abbrev pub invariant-loop-e : goal.invariant-loop-e
 invariant-loop-e l = record {
   count : l.count ≡ l.e-index;
-  fits : l.count + length (fitting (size_with l.bare) l.left (drop l.e-index l.entries)) ≡ length (fitting (size_with l.bare) l.room l.entries);
+  fits : l.count + length (fitting (size_with l.bare) l.left (drop l.e-index l.entries)) ≡ length
+      (fitting (size_with l.bare) l.room l.entries);
 }

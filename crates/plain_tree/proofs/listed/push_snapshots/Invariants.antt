@@ -7,4 +7,5 @@ use Rattle.plain_tree.proofs.listed.push_snapshots.Given as goal
 
 abbrev pub invariant-loop-s : goal.invariant-loop-s
 invariant-loop-s l =
-    l.entries.items ≡ l.fn.entries.items ++ behind l.cookie (map (listed SnapshotDirectory) (map snapshot_entry (map snapshot_of (take l.s-index l.snapshots))))
+    l.entries.items ≡ l.fn.entries.items
+    ++ behind l.cookie (map (listed SnapshotDirectory) (map snapshot_entry (map snapshot_of (take l.s-index l.snapshots))))

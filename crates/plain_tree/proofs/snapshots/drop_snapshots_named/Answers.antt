@@ -8,4 +8,5 @@ returns-clause-kept c = filter_same _ _ _ (λ x b f' k. search rules) _ _ c.reta
 
 pub returns-clause-few : goal.returns-clause-few
 returns-clause-few c =
-    fewer (λ s. not (bytes_eq s.name c.args.name.now)) c.args.snapshots.now.items _ (filter_same _ _ _ (λ x b f' k. search rules) _ _ c.retain.ensures.filtered)
+    fewer (λ s. not (bytes_eq s.name c.args.name.now)) c.args.snapshots.now.items _
+    (filter_same _ _ _ (λ x b f' k. search rules) _ _ c.retain.ensures.filtered)

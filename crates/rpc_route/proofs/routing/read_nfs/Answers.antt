@@ -6,4 +6,5 @@ pub read_args-requires : goal.read_args-requires
 read_args-requires c = subst (λ (n : ℕ). n ≤ 21) (sym c.number.ensures) (number_small c.args.procedure)
 
 pub returns : goal.returns
-returns c = read_by_number c.args.procedure c.number.result c.args.args.now c.read_args.result c.number.ensures c.read_args.ensures.gives
+returns c = read_by_number c.args.procedure c.number.result c.args.args.now c.read_args.result c.number.ensures
+    c.read_args.ensures.gives

@@ -9,4 +9,11 @@ returns-in_err-reserve-clause-puts c = λ max. search rules
 
 pub returns-clause-err : goal.returns-clause-err
 unfolding fixed word
-returns-clause-err c = not_failed c.put_fixed.result _ (c.put_fixed.ensures.puts.room (omega (arith, c.padding.ensures.is, c.in_ok-put_word.ensures.puts.len, c.put_word.ensures.puts.capacity, c.in_ok-reserve.ensures.ok)))
+returns-clause-err c = not_failed c.put_fixed.result _
+    (c.put_fixed.ensures.puts.room (omega (
+      arith,
+      c.padding.ensures.is,
+      c.in_ok-put_word.ensures.puts.len,
+      c.put_word.ensures.puts.capacity,
+      c.in_ok-reserve.ensures.ok,
+    )))

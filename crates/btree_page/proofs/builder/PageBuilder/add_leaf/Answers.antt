@@ -5,7 +5,8 @@ use Rattle.btree_page.proofs.builder.PageBuilder.add_leaf.Goals as goal
 
 pub overflow_add-self : goal.overflow_add-self
 overflow_add-self c =
-    let small : c.self.inside.count < 8192 = few c.self.inside.level c.self.inside.count c.self.inside.bytes.spare c.self.inside.bytes.items c.self.invariant in omega arith
+    let small : c.self.inside.count < 8192 = few c.self.inside.level c.self.inside.count c.self.inside.bytes.spare
+    c.self.inside.bytes.items c.self.invariant in omega arith
 
 pub put_leaf-requires-clause-value : goal.put_leaf-requires-clause-value
 put_leaf-requires-clause-value c = value_short _ c.args.death c.args.value.now c.requires.fits.body
@@ -13,22 +14,30 @@ put_leaf-requires-clause-value c = value_short _ c.args.death c.args.value.now c
 pub invariant_of-self : goal.invariant_of-self
 invariant_of-self c =
     let e : Entry = leaf_entry c.args.key.now c.args.birth c.args.death c.args.value.now in
-    let size : length (entry_spelling e) ≡ 20 + length c.args.key.now + length c.args.value.now = leaf_size c.args.key.now c.args.birth c.args.death c.args.value.now in
-    (added c.args.self.now c.self.inside.level c.self.inside.count c.self.inside.bytes.spare c.put_leaf.new.out.spare c.self.inside.bytes.items c.put_leaf.new.out.items e
+    let size : length (entry_spelling e) ≡ 20 + length c.args.key.now + length c.args.value.now =
+    leaf_size c.args.key.now c.args.birth c.args.death c.args.value.now in
+    (added c.args.self.now c.self.inside.level c.self.inside.count c.self.inside.bytes.spare c.put_leaf.new.out.spare
+    c.self.inside.bytes.items c.put_leaf.new.out.items e
     c.self.view_is c.self.invariant c.requires c.put_leaf.ensures.items
-    (omega (arith, size, c.len.ensures.value, c.if-len-key-gt-PAGE_LIMIT.false)) (omega (arith, size, c.put_leaf.ensures.spare))).0
+    (omega (arith, size, c.len.ensures.value, c.if-len-key-gt-PAGE_LIMIT.false))
+    (omega (arith, size, c.put_leaf.ensures.spare))).0
 
 pub returns-clause-ok : goal.returns-clause-ok
 returns-clause-ok c =
     let e : Entry = leaf_entry c.args.key.now c.args.birth c.args.death c.args.value.now in
-    let size : length (entry_spelling e) ≡ 20 + length c.args.key.now + length c.args.value.now = leaf_size c.args.key.now c.args.birth c.args.death c.args.value.now in
-    (added c.args.self.now c.self.inside.level c.self.inside.count c.self.inside.bytes.spare c.put_leaf.new.out.spare c.self.inside.bytes.items c.put_leaf.new.out.items e
+    let size : length (entry_spelling e) ≡ 20 + length c.args.key.now + length c.args.value.now =
+    leaf_size c.args.key.now c.args.birth c.args.death c.args.value.now in
+    (added c.args.self.now c.self.inside.level c.self.inside.count c.self.inside.bytes.spare c.put_leaf.new.out.spare
+    c.self.inside.bytes.items c.put_leaf.new.out.items e
     c.self.view_is c.self.invariant c.requires c.put_leaf.ensures.items
-    (omega (arith, size, c.len.ensures.value, c.if-len-key-gt-PAGE_LIMIT.false)) (omega (arith, size, c.put_leaf.ensures.spare))).1
+    (omega (arith, size, c.len.ensures.value, c.if-len-key-gt-PAGE_LIMIT.false))
+    (omega (arith, size, c.put_leaf.ensures.spare))).1
 
 pub returns-clause-too_big : goal.returns-clause-too_big
 returns-clause-too_big c =
     let e : Entry = leaf_entry c.args.key.now c.args.birth c.args.death c.args.value.now in
-    let size : length (entry_spelling e) ≡ 20 + length c.args.key.now + length c.args.value.now = leaf_size c.args.key.now c.args.birth c.args.death c.args.value.now in
-    let whole = size_with c.args.self.now c.self.inside.level c.self.inside.count c.self.inside.bytes.spare c.self.inside.bytes.items e c.self.view_is c.self.invariant in
+    let size : length (entry_spelling e) ≡ 20 + length c.args.key.now + length c.args.value.now =
+    leaf_size c.args.key.now c.args.birth c.args.death c.args.value.now in
+    let whole = size_with c.args.self.now c.self.inside.level c.self.inside.count c.self.inside.bytes.spare
+    c.self.inside.bytes.items e c.self.view_is c.self.invariant in
     (λ h. absurd cc, λ big. absurd (omega (arith, whole, size, c.len.ensures.value, c.if-len-key-gt-PAGE_LIMIT.false)))

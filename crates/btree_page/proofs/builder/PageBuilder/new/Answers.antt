@@ -8,7 +8,8 @@ invariant_of-result c =
     let spelled : c.extend_reserved.new.self.items ≡ 1 ∷ c.args.level ∷ 0 ∷ 0 ∷ [] =
     c.extend_reserved.ensures.items ∙ ap (λ (t : List ℕ). t ++ 1 ∷ c.args.level ∷ 0 ∷ 0 ∷ []) c.in_ok-bytes.ensures.items in
     let len : length c.extend_reserved.new.self.items ≡ 4 = ap (λ (t : List ℕ). length t) spelled in
-    (is_built c.args.level 0 c.extend_reserved.new.self.spare c.extend_reserved.new.self.items [] (omega (arith, c.requires)) spelled tt refl
+    (is_built c.args.level 0 c.extend_reserved.new.self.spare c.extend_reserved.new.self.items [] (omega (arith, c.requires))
+    spelled tt refl
     (omega (arith, len)) (omega (arith, len, c.extend_reserved.ensures.spare, c.in_ok-bytes.ensures.spare))).0
 
 pub returns : goal.returns
@@ -17,5 +18,6 @@ returns c =
     c.extend_reserved.ensures.items ∙ ap (λ (t : List ℕ). t ++ 1 ∷ c.args.level ∷ 0 ∷ 0 ∷ []) c.in_ok-bytes.ensures.items in
     let len : length c.extend_reserved.new.self.items ≡ 4 = ap (λ (t : List ℕ). length t) spelled in
     ap (λ (cs : List Entry). let made : Content = record { level = c.args.level; cells = cs } in made)
-    (is_built c.args.level 0 c.extend_reserved.new.self.spare c.extend_reserved.new.self.items [] (omega (arith, c.requires)) spelled tt refl
+    (is_built c.args.level 0 c.extend_reserved.new.self.spare c.extend_reserved.new.self.items [] (omega (arith, c.requires))
+    spelled tt refl
     (omega (arith, len)) (omega (arith, len, c.extend_reserved.ensures.spare, c.in_ok-bytes.ensures.spare))).1

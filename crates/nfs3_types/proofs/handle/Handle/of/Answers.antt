@@ -5,4 +5,5 @@ pub returns-then-text-ne24-clause-said : goal.returns-then-text-ne24-clause-said
 returns-then-text-ne24-clause-said c = handle_in-wrong c.args.text.now c.if-text-ne24.true
 
 pub returns-clause-said : goal.returns-clause-said
-returns-clause-said c = rw (c.read_u64.ensures, c.read_u64-2.ensures, c.read_u64-3.ensures) (handle_in-right c.args.text.now c.if-text-ne24.false)
+returns-clause-said c = rw (c.read_u64.ensures, c.read_u64-2.ensures, c.read_u64-3.ensures)
+    (handle_in-right c.args.text.now c.if-text-ne24.false)

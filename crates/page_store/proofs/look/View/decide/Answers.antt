@@ -20,5 +20,7 @@ returns c =
     decide_done keeps d c.in_ok-party.party c.all.result
     (none_if _ c.in_default.not-Some ∙ c.in_ok-answer.ensures)
     (c.in_ok-party.ensures ∙ ap (λ (o : Outcome). record (keeps.party d.tid) { outcome = Some o }) c.in_ok-outcome.ensures)
-    (c.all.ensures.answer ∙ (ap (λ (o : Outcome). Decided o) c.in_ok-copy.ensures ∙ ap (λ (o : Outcome). Decided o) c.in_ok-outcome.ensures))
-    (c.all.ensures.patch ∙ ap (λ (l : List Change). patched l (Some (record { tid = d.tid; party = c.in_ok-party.party })) keeps.next keeps) c.new.ensures.items)
+    (c.all.ensures.answer ∙ (ap (λ (o : Outcome). Decided o) c.in_ok-copy.ensures
+    ∙ ap (λ (o : Outcome). Decided o) c.in_ok-outcome.ensures))
+    (c.all.ensures.patch ∙ ap (λ (l : List Change). patched l (Some (record { tid = d.tid; party = c.in_ok-party.party }))
+    keeps.next keeps) c.new.ensures.items)

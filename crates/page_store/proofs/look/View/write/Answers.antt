@@ -18,5 +18,6 @@ returns c =
     write_done keeps x c.in_ok-rows.rows.items c.in_ok-party.party c.all.result
     (none_if _ c.in_default.not-Some ∙ c.in_ok-answer.ensures)
     c.in_ok-rows.ensures
-    (c.in_ok-party.ensures ∙ ap (λ (e : Option Entry). record (keeps.party x.tid) { outcome = Some (Commit e) }) c.in_ok-copy_entry.ensures)
+    (c.in_ok-party.ensures ∙ ap (λ (e : Option Entry). record (keeps.party x.tid) { outcome = Some (Commit e) })
+    c.in_ok-copy_entry.ensures)
     c.all.ensures.answer c.all.ensures.patch

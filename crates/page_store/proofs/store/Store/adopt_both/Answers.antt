@@ -13,7 +13,8 @@ invariant_of-self c =
     let second = c.requires.1 in
     let plan = c.requires.2 in
     let self = c.args.self.now in
-    let counted : c.count.result ≡ number_of first = c.count.ensures ∙ answered (state (keeps_of self.shelf)) first c.args.plan.first plan.first_answer in
+    let counted : c.count.result ≡ number_of first = c.count.ensures
+    ∙ answered (state (keeps_of self.shelf)) first c.args.plan.first plan.first_answer in
     let both = c.adopt-2.ensures.under ∙ ap (λ (k : Keeps). under c.args.plan.second_patch k) c.adopt.ensures.under in
     record {
       indexed = subst IsIndexed (sym both) plan.second_indexed;

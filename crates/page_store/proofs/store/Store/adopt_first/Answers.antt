@@ -12,7 +12,8 @@ invariant_of-self c =
     let first = c.requires.0 in
     let plan = c.requires.2 in
     let self = c.args.self.now in
-    let counted : c.count.result ≡ number_of first = c.count.ensures ∙ answered (state (keeps_of self.shelf)) first c.args.plan.first plan.first_answer in
+    let counted : c.count.result ≡ number_of first = c.count.ensures
+    ∙ answered (state (keeps_of self.shelf)) first c.args.plan.first plan.first_answer in
     record {
       indexed = subst IsIndexed (sym c.adopt.ensures.under) plan.first_indexed;
       bounded = subst (λ (k : ℕ). IsBounded (self.obeyed + k + 1) (state (keeps_of c.adopt.new.self))) (sym counted)

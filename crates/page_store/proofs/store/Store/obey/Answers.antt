@@ -17,9 +17,12 @@ invariant_of-self c =
 pub invariant_of-self-2 : goal.invariant_of-self-2
 invariant_of-self-2 c =
     let self = c.args.self.now in
-    let none = under_none c.none-none.result (keeps_of self.shelf) c.none-none.ensures.rows c.none-none.ensures.party c.none-none.ensures.next in
-    let step = step_over (keeps_of self.shelf) (under c.none-none.result (keeps_of self.shelf)) c.args.command.now c.in_ok-step.step none c.in_ok-step.ensures in
-    let done = step_adopted (keeps_of self.shelf) (keeps_of c.make_room.new.self) (keeps_of c.adopt.new.self) c.args.command.now c.in_ok-step.step
+    let none = under_none c.none-none.result (keeps_of self.shelf) c.none-none.ensures.rows c.none-none.ensures.party
+    c.none-none.ensures.next in
+    let step = step_over (keeps_of self.shelf) (under c.none-none.result (keeps_of self.shelf)) c.args.command.now
+    c.in_ok-step.step none c.in_ok-step.ensures in
+    let done = step_adopted (keeps_of self.shelf) (keeps_of c.make_room.new.self) (keeps_of c.adopt.new.self) c.args.command.now
+    c.in_ok-step.step
     step self.indexed c.make_room.ensures.same c.adopt.ensures.under in
     record {
       indexed = done.1;
@@ -30,13 +33,18 @@ invariant_of-self-2 c =
 pub returns-clause-answer : goal.returns-clause-answer
 returns-clause-answer c =
     let self = c.args.self.now in
-    let none = under_none c.none-none.result (keeps_of self.shelf) c.none-none.ensures.rows c.none-none.ensures.party c.none-none.ensures.next in
-    (step_over (keeps_of self.shelf) (under c.none-none.result (keeps_of self.shelf)) c.args.command.now c.in_ok-step.step none c.in_ok-step.ensures).answer
+    let none = under_none c.none-none.result (keeps_of self.shelf) c.none-none.ensures.rows c.none-none.ensures.party
+    c.none-none.ensures.next in
+    (step_over (keeps_of self.shelf) (under c.none-none.result (keeps_of self.shelf)) c.args.command.now c.in_ok-step.step none
+    c.in_ok-step.ensures).answer
 
 pub returns-clause-after : goal.returns-clause-after
 returns-clause-after c =
     let self = c.args.self.now in
-    let none = under_none c.none-none.result (keeps_of self.shelf) c.none-none.ensures.rows c.none-none.ensures.party c.none-none.ensures.next in
-    let step = step_over (keeps_of self.shelf) (under c.none-none.result (keeps_of self.shelf)) c.args.command.now c.in_ok-step.step none c.in_ok-step.ensures in
-    (step_adopted (keeps_of self.shelf) (keeps_of c.make_room.new.self) (keeps_of c.adopt.new.self) c.args.command.now c.in_ok-step.step
+    let none = under_none c.none-none.result (keeps_of self.shelf) c.none-none.ensures.rows c.none-none.ensures.party
+    c.none-none.ensures.next in
+    let step = step_over (keeps_of self.shelf) (under c.none-none.result (keeps_of self.shelf)) c.args.command.now
+    c.in_ok-step.step none c.in_ok-step.ensures in
+    (step_adopted (keeps_of self.shelf) (keeps_of c.make_room.new.self) (keeps_of c.adopt.new.self) c.args.command.now
+    c.in_ok-step.step
     step self.indexed c.make_room.ensures.same c.adopt.ensures.under).0

@@ -8,19 +8,28 @@ loop-node-init c = counted_first c.args.self.now.map.entries _ c.into_iter-node-
 
 pub overflow_add-count : goal.overflow_add-count
 overflow_add-count c =
-    let small = counted_fits c.args.self.now.map.entries c.loop-node.node-iterator c.next.new.self (c.in-Some.field-0-0.now, c.in-Some.node.now) c.loop-node.count c.byte_count.result
+    let small = counted_fits c.args.self.now.map.entries c.loop-node.node-iterator c.next.new.self (
+      c.in-Some.field-0-0.now,
+      c.in-Some.node.now,
+    ) c.loop-node.count c.byte_count.result
     c.loop-node.invariant c.in-Some.ensures.steps c.byte_count.type_inv c.into_iter-node-iterator.ensures.into_iter_gives.1 in
     omega (arith, small)
 
 pub loop-node-preserved : goal.loop-node-preserved
 loop-node-preserved c =
-    counted_next c.args.self.now.map.entries c.loop-node.node-iterator c.next.new.self (c.in-Some.field-0-0.now, c.in-Some.node.now) c.loop-node.count c.byte_count.result
+    counted_next c.args.self.now.map.entries c.loop-node.node-iterator c.next.new.self (
+      c.in-Some.field-0-0.now,
+      c.in-Some.node.now,
+    ) c.loop-node.count c.byte_count.result
     c.loop-node.invariant c.in-Some.ensures.steps c.byte_count.ensures c.byte_count.type_inv
 
 pub returns-clause-bytes : goal.returns-clause-bytes
 returns-clause-bytes c = λ ids l.
-    counted_last c.args.self.now.map.entries c.loop-node.node-iterator c.loop-node.count c.loop-node.invariant c.in-None.ensures.steps.0
-    ∙ bytes_counted c.args.self.now.map c.into_iter-node-iterator.ensures.into_iter_gives.5 c.into_iter-node-iterator.ensures.into_iter_gives.6 ids l
+    counted_last c.args.self.now.map.entries c.loop-node.node-iterator c.loop-node.count c.loop-node.invariant
+    c.in-None.ensures.steps.0
+    ∙ bytes_counted c.args.self.now.map c.into_iter-node-iterator.ensures.into_iter_gives.5
+    c.into_iter-node-iterator.ensures.into_iter_gives.6 ids l
 
 pub returns-clause-listed : goal.returns-clause-listed
-returns-clause-listed c = (keys c.args.self.now.map, keys_list c.args.self.now.map c.into_iter-node-iterator.ensures.into_iter_gives.5)
+returns-clause-listed c =
+    (keys c.args.self.now.map, keys_list c.args.self.now.map c.into_iter-node-iterator.ensures.into_iter_gives.5)

@@ -15,5 +15,6 @@ returns-clause-ready c =
     let live : is_live directory.place ≡ true = search rules in
     let few : nat_le most_links file.inode.nlink ≡ false = search rules in
     let cookies : lacks_cookies directory.inode ≡ false = search rules in
-    can_link (tree_of c.args.self.now) file directory _ c.in_ok-file.ensures.stands file_live c.in_ok-directory.ensures.stands live
+    can_link (tree_of c.args.self.now) file directory _ c.in_ok-file.ensures.stands file_live c.in_ok-directory.ensures.stands
+    live
     few cookies (search rules) (search rules)

@@ -10,6 +10,7 @@ use Rattle.plain_tree.proofs.plain.Plain.new_plan.Goals as goal
 pub returns-clause-room : goal.returns-clause-room
 returns-clause-room c =
     let at : fileid_at c.args.directory.now.place ≡ c.fileid.result = search rules in
-    let passed : need_new_node (tree_of c.args.self.now) c.args.cred.now c.args.lane c.args.directory.now.inode Reg (create_attributes c.args.how) ≡ Ok tt = search rules in
+    let passed : need_new_node (tree_of c.args.self.now) c.args.cred.now c.args.lane c.args.directory.now.inode Reg
+    (create_attributes c.args.how) ≡ Ok tt = search rules in
     subst (λ (d : ℕ). CanMake (tree_of c.args.self.now) c.args.lane Reg d) at
     (can_make _ _ _ _ _ _ _ c.requires.found c.requires.live passed)

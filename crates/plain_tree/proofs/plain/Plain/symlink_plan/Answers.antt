@@ -10,6 +10,7 @@ use Rattle.plain_tree.proofs.plain.Plain.symlink_plan.Goals as goal
 pub returns-clause-room : goal.returns-clause-room
 returns-clause-room c =
     let at : fileid_at c.in_ok-directory.directory.place ≡ c.fileid.result = search rules in
-    let passed : need_new_node (tree_of c.args.self.now) c.args.cred.now c.args.lane c.in_ok-directory.directory.inode Lnk c.args.a.now.attributes ≡ Ok tt = search rules in
+    let passed : need_new_node (tree_of c.args.self.now) c.args.cred.now c.args.lane c.in_ok-directory.directory.inode Lnk
+    c.args.a.now.attributes ≡ Ok tt = search rules in
     subst (λ (d : ℕ). CanMake (tree_of c.args.self.now) c.args.lane Lnk d) at
     (can_make _ _ _ _ _ _ _ c.in_ok-directory.ensures.stands c.in_ok-directory.ensures.live passed)

@@ -53,7 +53,8 @@ returns-in-Ok-clause-log g c =
     at_ok a.result.own c.in-Ok.field-0 (IsSettledNow before now c.args.command.now a.result) c.in-Ok.is a.ensures.ok in
     let plan : IsPlan s.store c.args.ready.late c.args.command.now c.args.ready.plan =
     subst (λ d. IsPlan s.store d c.args.command.now c.args.ready.plan) (sym c.requires.ready.late) c.requires.ready.plan in
-    let both : AdoptsBoth s.store c.adopt_both-settled.new.store c.args.ready.late c.args.command.now c.adopt_both-settled.result =
+    let both : AdoptsBoth s.store c.adopt_both-settled.new.store c.args.ready.late c.args.command.now
+    c.adopt_both-settled.result =
     c.adopt_both-settled.ensures c.args.command.now plan in
     joins_both (state_of s.store) s.group.log a.new.self.log s.group.pending c.args.command.now c.adopt_both-settled.result.late
     c.adopt_both-settled.result.own is.log
