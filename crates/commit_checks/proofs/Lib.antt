@@ -1,0 +1,4 @@
+pub mod Knowing
+pub mod Assembling
+pub mod Meeting
+pub mod Overtaking
