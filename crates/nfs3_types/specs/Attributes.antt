@@ -52,8 +52,7 @@ fattr = do
     size = size;
     used = used;
     rdev = rdev;
-    fsid =
-        fsid;
+    fsid = fsid;
     fileid = fileid;
     atime = atime;
     mtime = mtime;

@@ -204,8 +204,7 @@ path_conf_ok = do
     linkmax = linkmax;
     name_max = name_max;
     no_trunc = no_trunc;
-    chown_restricted =
-        chown_restricted;
+    chown_restricted = chown_restricted;
     case_insensitive = case_insensitive;
     case_preserving = case_preserving;
   })
