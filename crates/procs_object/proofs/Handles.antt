@@ -1,5 +1,6 @@
 -- Where a handle leads, by the first record and the inode that are read.
-use Rattle.std.proofs.Common.{◌≡◌, ◌≢◌, ◌∙◌, ℕ, Bool, true, false, if◌then◌else◌, List, length, refl, sym, ap, subst, Option, Some, None, Ok, Err}
+use Rattle.std.proofs.Common.{◌≡◌, ◌≢◌, ◌∙◌, ℕ, Bool, true, false, if◌then◌else◌, List, length, refl, sym, ap, subst, Option}
+use Rattle.std.proofs.Common.{Some, None, Ok, Err}
 use Rattle.std.specs.Prelude.{◌==◌, ◌&&◌, option_map}
 use Rattle.std.proofs.lemmas.Bool.{ne_eqb, eq-eqb}
 use Rattle.nfs3_types.specs.declared.attributes.Fattr.{Fattr}
@@ -11,13 +12,13 @@ use Rattle.fs_rules.specs.declared.place.Place.{Place}
 use Rattle.fs_rules.specs.declared.place.Place.TheVariants.{Live, SnapshotDirectory, Kept as KeptPlace}
 use Rattle.fs_rules.specs.Attributes.{is_directory, size_of, attributes_of}
 use Rattle.fs_rules.specs.Checks.{find_object, ◌>>=◌, some_or}
-use Rattle.fs_rules.specs.Places.{Object, object_by, object_at, object_of, node_at, place_of, no_snapshot, attributes}
+use Rattle.fs_rules.specs.Places.{Object, object_by, object_at, object_of, leads_to, node_at, place_of, no_snapshot, attributes}
 use Rattle.fs_rules.specs.Tree.{Tree, Node}
 use Rattle.fs_keys.specs.declared.inode.Inode.{Inode}
 use Rattle.fs_shows.specs.Nodes.{IsInodeOf}
 use Rattle.fs_shows.specs.Views.{IsFoundAs}
 use Rattle.procs_object.specs.declared.object.Found.{Found}
-use Rattle.procs_object.specs.Finding.{IsObject}
+use Rattle.procs_object.specs.Finding.{IsObject, IsLed}
 
 -- ---- attributes, from the size that an inode says
 
@@ -29,7 +30,8 @@ sized-again : (i : Kept) (n : ℕ) → size_of i (size_of i n) ≡ size_of i n
 unfolding size_of
 sized-again i n = size-again (is_directory i.kind) n
 
-pub attributes-by-size : (fsid id : ℕ) (i : Kept) (m n : ℕ) → size_of i m ≡ size_of i n → attributes_of fsid id i m ≡ attributes_of fsid id i n
+pub attributes-by-size : (fsid id : ℕ) (i : Kept) (m n : ℕ) → size_of i m ≡ size_of i n
+    → attributes_of fsid id i m ≡ attributes_of fsid id i n
 unfolding attributes_of
 attributes-by-size fsid id i m n same =
     ap (λ (s : ℕ). let a : Fattr = record {
@@ -54,7 +56,8 @@ pub attributes-by-inode : (fsid id : ℕ) (i : Inode) (n : Node) → IsInodeOf i
 attributes-by-inode fsid id i n is =
     sym (ap (λ (k : Kept). attributes_of fsid id k i.head.size) is.kept
     ∙ ap (λ (s : ℕ). attributes_of fsid id n.inode s) is.size
-    ∙ attributes-by-size fsid id n.inode (size_of n.inode (length n.content)) (length n.content) (sized-again n.inode (length n.content)))
+    ∙ attributes-by-size fsid id n.inode (size_of n.inode (length n.content)) (length n.content) (sized-again n.inode
+    (length n.content)))
 
 -- ---- what was found, or was not
 
@@ -70,6 +73,50 @@ pub record Stood (i : Inode) (o : Option Node) : Type 0 where
 some-of : (i : Inode) (o : Option Node) → IsFoundAs (Some i) o → Stood i o
 some-of i None is = absurd is
 some-of i (Some n) is = record { node = n; is = refl; inode = is }
+
+-- ---- numbers
+
+module _ (t : Tree) where
+  pub led-nowhere : (o : Option Object) → IsLed t None o → o ≡ None
+  led-nowhere None led = refl
+  led-nowhere (Some o) led = absurd led
+
+  pub led-there : (x : Found) (o : Option Object) → IsLed t (Some x) o → (p : Object) × (o ≡ Some p) × IsObject t x p
+  led-there x None led = absurd led
+  led-there x (Some p) led = (p, refl, led)
+
+module _ (t : Tree) (id : ℕ) where
+  object-as : (o : Option Node) → node_at t (Live id) ≡ o → object_at t (Live id) ≡ option_map (object_by (Live id)) o
+  unfolding object_at
+  object-as o is = ap (λ (o : Option Node). option_map (object_by (Live id)) o) is
+
+  attributes-here : (i : Inode) (n : Node) (fsid : ℕ) → t.fsid ≡ fsid → IsInodeOf i n
+      → attributes t (object_by (Live id) n) ≡ attributes_of fsid id i.head.kept i.head.size
+  unfolding attributes
+  attributes-here i n fsid begins is =
+      attributes-by-inode t.fsid id i n is ∙ ap (λ (f : ℕ). attributes_of f id i.head.kept i.head.size) begins
+
+  pub led-none : IsFoundAs None (node_at t (Live id)) → IsLed t None (leads_to t (Live id))
+  led-none found =
+      let P : Option Object → Type 0 = λ o. IsLed t None o in
+      subst P (sym (object-as None (none-of (node_at t (Live id)) found))) tt
+
+  pub led-some : (fsid : ℕ) (i : Inode) (a : Fattr) → t.fsid ≡ fsid → a ≡ attributes_of fsid id i.head.kept i.head.size
+      → IsFoundAs (Some i) (node_at t (Live id))
+      → IsLed t (Some (record { place = Live id; inode = i; attributes = a })) (leads_to t (Live id))
+  led-some fsid i a begins is found =
+      let s = some-of i (node_at t (Live id)) found in
+      let x : Found = record { place = Live id; inode = i; attributes = a } in
+      let P : Option Object → Type 0 = λ o. IsLed t (Some x) o in
+      subst P (sym (object-as (Some s.node) s.is)) (record {
+        node = s.node;
+        there = s.is;
+        inode = s.inode;
+        is = refl;
+        attributes = attributes-here i s.node fsid begins s.inode ∙ sym is;
+      })
+
+-- ---- handles
 
 module _ (t : Tree) (bytes : List ℕ) where
   pub bad-handle : handle_in bytes ≡ None → find_object t bytes ≡ Err BadHandle
@@ -97,45 +144,23 @@ module _ (t : Tree) (bytes : List ℕ) where
         else (if (h.snapshot == no_snapshot) && (h.fileid == 2) then SnapshotDirectory else KeptPlace h.snapshot h.fileid))
         (eq-eqb h.snapshot 0 live)
 
-    object-here : (h.fsid == t.fsid) ≡ true → h.snapshot ≡ 0 → object_of t h ≡ object_at t (Live h.fileid)
+    object-here : (h.fsid == t.fsid) ≡ true → h.snapshot ≡ 0 → object_of t h ≡ leads_to t (Live h.fileid)
     unfolding object_of
     object-here own live =
         ap (λ (b : Bool). if b then object_at t (place_of h) else None) own
         ∙ ap (λ (p : Place). object_at t p) (place-live live)
 
-    object-as : (o : Option Node) → node_at t (Live h.fileid) ≡ o → object_at t (Live h.fileid) ≡ option_map (object_by (Live h.fileid)) o
-    unfolding object_at
-    object-as o is = ap (λ (o : Option Node). option_map (object_by (Live h.fileid)) o) is
+    module _ (said : handle_in bytes ≡ Some h) (live : h.snapshot ≡ 0) (own : h.fsid ≡ t.fsid) where
+      found-as : (o : Option Object) → leads_to t (Live h.fileid) ≡ o → find_object t bytes ≡ some_or o Stale
+      found-as o is =
+          looked said
+          ∙ ap (λ (o : Option Object). some_or o Stale) (object-here (eq-eqb h.fsid t.fsid own) live ∙ is)
 
-    found-as : (fsid : ℕ) (o : Option Node) → handle_in bytes ≡ Some h → h.snapshot ≡ 0 → t.fsid ≡ fsid → h.fsid ≡ fsid
-        → node_at t (Live h.fileid) ≡ o → find_object t bytes ≡ some_or (option_map (object_by (Live h.fileid)) o) Stale
-    found-as fsid o said live begins own is =
-        looked said
-        ∙ ap (λ (o : Option Object). some_or o Stale)
-        (object-here (eq-eqb h.fsid t.fsid (own ∙ sym begins)) live ∙ object-as o is)
+      pub not-there : IsLed t None (leads_to t (Live h.fileid)) → find_object t bytes ≡ Err Stale
+      not-there led = found-as None (led-nowhere t (leads_to t (Live h.fileid)) led)
 
-    pub not-there : (fsid : ℕ) → handle_in bytes ≡ Some h → h.snapshot ≡ 0 → t.fsid ≡ fsid → h.fsid ≡ fsid
-        → IsFoundAs None (node_at t (Live h.fileid)) → find_object t bytes ≡ Err Stale
-    not-there fsid said live begins own none = found-as fsid None said live begins own (none-of (node_at t (Live h.fileid)) none)
-
-    attributes-here : (i : Inode) (n : Node) (fsid : ℕ) → t.fsid ≡ fsid → IsInodeOf i n
-        → attributes t (object_by (Live h.fileid) n) ≡ attributes_of fsid h.fileid i.head.kept i.head.size
-    unfolding attributes
-    attributes-here i n fsid begins is =
-        attributes-by-inode t.fsid h.fileid i n is ∙ ap (λ (f : ℕ). attributes_of f h.fileid i.head.kept i.head.size) begins
-
-    pub there : (fsid : ℕ) (i : Inode) (a : Fattr) → handle_in bytes ≡ Some h → h.snapshot ≡ 0 → t.fsid ≡ fsid → h.fsid ≡ fsid
-        → a ≡ attributes_of fsid h.fileid i.head.kept i.head.size → IsFoundAs (Some i) (node_at t (Live h.fileid))
-        → (o : Object) × (find_object t bytes ≡ Ok o) × IsObject t (record { place = Live h.fileid; inode = i; attributes = a }) o
-    there fsid i a said live begins own is found =
-        let s = some-of i (node_at t (Live h.fileid)) found in (
-          object_by (Live h.fileid) s.node,
-          found-as fsid (Some s.node) said live begins own s.is,
-          record {
-            node = s.node;
-            there = s.is;
-            inode = s.inode;
-            is = refl;
-            attributes = attributes-here i s.node fsid begins s.inode ∙ sym is;
-          },
-        )
+      pub there : (x : Found) → IsLed t (Some x) (leads_to t (Live h.fileid))
+          → (o : Object) × (find_object t bytes ≡ Ok o) × IsObject t x o
+      there x led =
+          let p = led-there t x (leads_to t (Live h.fileid)) led in
+          (p.0, found-as (Some p.0) p.1, p.2)

@@ -1,5 +1,7 @@
 pub mod Reading
+pub mod Gathering
 pub mod Handles
 pub mod Ending
 pub mod Told
 pub mod Set
+pub mod Places

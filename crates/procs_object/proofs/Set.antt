@@ -1,6 +1,7 @@
 -- The row of SETATTR, where no size is given.
-use Rattle.std.proofs.Common.{◌≡◌, ◌∙◌, ℕ, Bool, true, if◌then◌else◌, List, length, refl, sym, ap, subst, Option, Some, None, Result, Ok, Err}
-use Rattle.std.specs.Prelude.{⊤, IsSomeAnd, option_map, ◌==◌}
+use Rattle.std.proofs.Common.{◌≡◌, ◌∙◌, ℕ, Bool, true, if◌then◌else◌, List, length, refl, sym, ap, subst, Option, Some, None}
+use Rattle.std.proofs.Common.{Ok, Err}
+use Rattle.std.specs.Prelude.{⊤, IsSomeAnd, option_map}
 use Rattle.std.proofs.lemmas.Bool.{eq-eqb}
 use Rattle.nfs3_types.specs.declared.args.SetAttrArgs.{SetAttrArgs}
 use Rattle.nfs3_types.specs.declared.attributes.Fattr.{Fattr}
@@ -15,7 +16,7 @@ use Rattle.fs_rules.specs.declared.place.Place.{Place}
 use Rattle.fs_rules.specs.declared.place.Place.TheVariants.{Live, SnapshotDirectory, Kept as KeptPlace}
 use Rattle.fs_rules.specs.declared.plans.SetAttrPlan.{SetAttrPlan}
 use Rattle.fs_rules.specs.Attributes.{apply_sattr, attributes_of, size_of, wcc_of}
-use Rattle.fs_rules.specs.Checks.{Check, Row, ◌>>=◌, done, find_object, is_live}
+use Rattle.fs_rules.specs.Checks.{Check, ◌>>=◌, done, find_object, is_live}
 use Rattle.fs_rules.specs.Edits.{edit_node, set_attributes, set_size_if, with_node}
 use Rattle.fs_rules.specs.Places.{Object, object_by, object_at, node_at, attributes, shown, change, fileid_at}
 use Rattle.fs_rules.specs.Setting.{set_attr, set_attr_plan}
@@ -30,7 +31,15 @@ use Rattle.procs_object.specs.Planning.{plan_for}
 abbrev SetsBy : ℕ → ℕ → Kept → ℕ → Moment → Sattr → Type 0
 SetsBy fsid id i n now s =
     let p = apply_sattr (attributes_of fsid id i n) s now in
-    attributes_of fsid id (record i { mode = p.mode; uid = p.uid; gid = p.gid; atime = p.atime; mtime = p.mtime; ctime = p.ctime }) n ≡ p
+    attributes_of fsid id (record i {
+      mode = p.mode;
+      uid = p.uid;
+      gid = p.gid;
+      atime = p.atime;
+      mtime = p.mtime;
+      ctime =
+          p.ctime;
+    }) n ≡ p
 
 sets-unsized : (fsid id : ℕ) (i : Kept) (n : ℕ) (now : Moment) (s : Sattr) → SetsBy fsid id i n now (record s { size = None })
 unfolding attributes_of size_of apply_sattr
@@ -57,7 +66,8 @@ shown-at : (t : Tree) (p : Place) (n : Node) → node_at t p ≡ Some n → show
 unfolding shown object_at
 shown-at t p n is = ap (λ (o : Option Node). option_map (attributes t) (option_map (object_by p) o)) is
 
-edited-node : (t : Tree) (id : ℕ) (edit : Node → Node) (n : Node) → t.nodes id ≡ Some n → node_at (edit_node id edit t) (Live id) ≡ Some (edit n)
+edited-node : (t : Tree) (id : ℕ) (edit : Node → Node) (n : Node) → t.nodes id ≡ Some n
+    → node_at (edit_node id edit t) (Live id) ≡ Some (edit n)
 unfolding node_at edit_node with_node
 edited-node t id edit n is =
     ap (λ (b : Bool). if b then option_map edit (t.nodes id) else t.nodes id) (eq-eqb id id refl)
@@ -73,14 +83,16 @@ attributes-edited : (t : Tree) (id : ℕ) (at : Fattr) (n : Node)
 unfolding attributes edit_node
 attributes-edited t id at n = refl
 
-attributes-live : (t : Tree) (id : ℕ) (n : Node) → attributes t (object_by (Live id) n) ≡ attributes_of t.fsid id n.inode (length n.content)
+attributes-live : (t : Tree) (id : ℕ) (n : Node) → attributes t (object_by (Live id) n) ≡ attributes_of t.fsid id n.inode
+    (length n.content)
 unfolding attributes
 attributes-live t id n = refl
 
 -- ---- the row
 
 -- the handle leads nowhere
-pub set-halted : (t : Tree) (cred : Cred) (a : SetAttrArgs (List ℕ)) (now : Moment) (status : Status) → find_object t a.object ≡ Err status
+pub set-halted : (t : Tree) (cred : Cred) (a : SetAttrArgs (List ℕ)) (now : Moment) (status : Status)
+    → find_object t a.object ≡ Err status
     → set_attr t cred a now ≡ Err status
 unfolding set_attr set_attr_plan plan_for
 set-halted t cred a now status refused =
@@ -110,7 +122,8 @@ module _ (t : Tree) (cred : Cred) (a : SetAttrArgs (List ℕ)) (now : Moment) (x
   pub set-refused : (status : Status) → plan_for o x.attributes cred a now ≡ Err status → set_attr t cred a now ≡ Err status
   set-refused status plan = done-by (Err status) (planned (Err status) plan)
 
-  module _ (p : SetAttrPlan) (none : a.attributes.size ≡ None) (live : is_live x.place ≡ true) (id-is : p.fileid ≡ fileid_at x.place)
+  module _ (p : SetAttrPlan) (none : a.attributes.size ≡ None) (live : is_live x.place ≡ true)
+      (id-is : p.fileid ≡ fileid_at x.place)
       (at-is : p.attributes ≡ apply_sattr x.attributes a.attributes now) where
     place-is : x.place ≡ Live p.fileid
     place-is = live-place x.place live ∙ ap (λ (id : ℕ). Live id) (sym id-is)

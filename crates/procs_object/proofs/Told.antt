@@ -1,5 +1,5 @@
 -- The rows of what is told of an object.
-use Rattle.std.proofs.Common.{◌≡◌, ◌∙◌, ℕ, ◌^◌, Bool, true, false, not, if◌then◌else◌, List, [], refl, sym, ap, Option, Some, Result, Ok, Err}
+use Rattle.std.proofs.Common.{◌≡◌, ◌∙◌, ℕ, ◌^◌, Bool, true, false, if◌then◌else◌, List, [], refl, sym, ap, Option, Some, Ok, Err}
 use Rattle.std.specs.Prelude.{bit_and}
 use Rattle.nfs3_types.specs.declared.args.AccessArgs.{AccessArgs}
 use Rattle.nfs3_types.specs.declared.attributes.Fattr.{Fattr}
@@ -11,12 +11,11 @@ use Rattle.nfs3_types.specs.declared.status.Status.TheVariants.{Inval}
 use Rattle.fs_rules.specs.declared.inode.Inode.{Inode as Kept}
 use Rattle.fs_rules.specs.declared.place.Place.{Place}
 use Rattle.fs_rules.specs.Attributes.{is_link}
-use Rattle.fs_rules.specs.Checks.{Check, Row, ◌>>=◌, need, find_object, told}
+use Rattle.fs_rules.specs.Checks.{Check, ◌>>=◌, need, find_object, told}
 use Rattle.fs_rules.specs.Limits.{told_transfer, told_listing, most_size, most_links, longest_name}
-use Rattle.fs_rules.specs.Places.{Object, attributes, content_at, content_of, node_at}
+use Rattle.fs_rules.specs.Places.{Object, attributes, content_at, content_of}
 use Rattle.fs_rules.specs.Telling.{get_attr, access, read_link, fs_stat, fs_info, path_conf, allowed}
 use Rattle.fs_rules.specs.Tree.{Tree, Node}
-use Rattle.fs_shows.specs.Nodes.{IsInodeOf}
 use Rattle.procs_object.specs.declared.object.Found.{Found}
 use Rattle.procs_object.specs.Finding.{IsObject}
 
@@ -41,7 +40,8 @@ module _ (t : Tree) (x : Found) (o : Object) (is : IsObject t x o) where
 
   module _ (check : Check Object) (next : Object → Check Body) where
     -- the check found it
-    pub told-so : (body : Body) → check ≡ Ok o → next o ≡ Ok body → told t (check >>= next) ≡ Ok (record { body = body; tree = t })
+    pub told-so : (body : Body) → check ≡ Ok o → next o ≡ Ok body → told t (check >>= next) ≡ Ok
+        (record { body = body; tree = t })
     told-so body found gives = ap (λ (c : Check Object). told t (c >>= next)) found ∙ ap (λ (c : Check Body). told t c) gives
 
     pub told-not : (status : Status) → check ≡ Ok o → next o ≡ Err status → told t (check >>= next) ≡ Err status
@@ -133,7 +133,8 @@ module _ (t : Tree) (handle : List ℕ) where
   module _ (x : Found) (o : Object) (found : find_object t handle ≡ Ok o) (is : IsObject t x o) where
     pub get_attr-told : told t (get_attr t handle) ≡ Ok (record { body = GetAttr x.attributes; tree = t })
     unfolding get_attr
-    get_attr-told = told-by t x o is (find_object t handle) (λ o. Ok (GetAttr (attributes t o))) (λ (a : Fattr). GetAttr a) found refl
+    get_attr-told = told-by t x o is (find_object t handle) (λ o. Ok (GetAttr (attributes t o)))
+        (λ (a : Fattr). GetAttr a) found refl
 
     pub read_link-told : is_link x.inode.head.kept.kind ≡ true
         → told t (read_link t handle)
@@ -170,7 +171,8 @@ module _ (t : Tree) (cred : Cred) (a : AccessArgs (List ℕ)) where
   pub access-refused : (status : Status) → find_object t a.object ≡ Err status → told t (access t cred a) ≡ Err status
   unfolding access
   access-refused status refused =
-      told-refused t (find_object t a.object) (λ o. Ok (access-body (attributes t o) (bit_and a.access (allowed cred o)))) status refused
+      told-refused t (find_object t a.object) (λ o. Ok (access-body (attributes t o) (bit_and a.access
+      (allowed cred o)))) status refused
 
   pub access-told : (x : Found) (o : Object) (bits : ℕ) → find_object t a.object ≡ Ok o → IsObject t x o → bits ≡ allowed cred o
       → told t (access t cred a) ≡ Ok (record { body = access-body x.attributes (bit_and a.access bits); tree = t })

@@ -1,7 +1,9 @@
 -- What a handle leads to, as records tell it.
-use Rattle.std.specs.Prelude.{ℕ, ◌≡◌, List, Option, Some, None, Result, Ok, Err, IfSome}
+use Rattle.std.specs.Prelude.{ℕ, ◌≡◌, ◌≤◌, ⊤, true, List, length, Option, Some, None, Result, Ok, Err, IfSome}
 use Rattle.nfs3_types.specs.Handles.{handle_in}
-use Rattle.fs_rules.specs.Checks.{Check}
+use Rattle.fs_rules.specs.Attributes.{is_directory}
+use Rattle.fs_rules.specs.Checks.{Check, is_live}
+use Rattle.fs_rules.specs.Limits.{longest_name}
 use Rattle.fs_rules.specs.Places.{Object, object_by, node_at, attributes}
 use Rattle.fs_rules.specs.Sound.{IsSound}
 use Rattle.fs_rules.specs.Tree.{Tree, Node}
@@ -30,6 +32,19 @@ pub record IsObject (t : Tree) (x : Found) (o : Object) : Type 0 where
   pub inode : IsInodeOf x.inode node
   pub is : o ≡ object_by x.place node
   pub attributes : attributes t o ≡ x.attributes
+
+-- a number leads to what was found, or to nothing
+abbrev pub IsLed : Tree → Option Found → Option Object → Type 0
+IsLed t None None = ⊤
+IsLed t None (Some o) = ⊥
+IsLed t (Some x) None = ⊥
+IsLed t (Some x) (Some o) = IsObject t x o
+
+-- what was found is a live directory, and this is no longer than names are
+pub record IsPlaceFor (name : List ℕ) (x : Found) : Type 0 where
+  pub directory : is_directory x.inode.head.kept.kind ≡ true
+  pub live : is_live x.place ≡ true
+  pub short : length name ≤ longest_name
 
 module _ {S W : Type 0} (told : PairsTold S W) (old new : S) where
   -- Reads that answer as a check of the answer table does, on each tree of which this much is given: what was found stands,

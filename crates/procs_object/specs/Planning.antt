@@ -1,7 +1,8 @@
 -- SETATTR's checks once its object is found.
 use Rattle.fs_rules.specs.Words.{ℕ, not, List, Ok, SetAttrArgs, Fattr, Cred, Moment, NoSpc, NotSync}
 use Rattle.fs_rules.specs.declared.plans.SetAttrPlan.{SetAttrPlan}
-use Rattle.fs_rules.specs.Shared.{apply_sattr, given, sattr_fault, Check, ◌>>=◌, need_live, no_fault, refuse_if, Object, fileid_at}
+use Rattle.fs_rules.specs.Shared.{apply_sattr, given, sattr_fault, Check, ◌>>=◌, need_live, no_fault, refuse_if, Object}
+use Rattle.fs_rules.specs.Shared.{fileid_at}
 use Rattle.fs_rules.specs.Setting.{is_same, lacks_cuts}
 
 -- the plan for an object of these attributes

@@ -6,10 +6,12 @@
 //! edits of records, on `fs_shows` for what they show as a tree, and on `fs_rules` for the table and its rules.
 #![tactic(auto)]
 
+mod naming;
 mod object;
 mod setting;
 mod telling;
 
-pub use object::{Found, find_object, is_of_live, see};
+pub use naming::{find_directory, need_place_for};
+pub use object::{Found, find_child, find_object, is_live, is_of_live, see};
 pub use setting::set_attr;
 pub use telling::{access, fs_info, fs_stat, get_attr, path_conf, read_link};

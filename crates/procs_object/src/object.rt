@@ -1,16 +1,21 @@
-//! What handles lead to.
+//! What handles lead to, and file numbers.
 
-ghost use Rattle.std.specs.Prelude.{◌≡◌, ◌↔◌, IsTrue};
-ghost use Rattle.fs_rules.specs.Checks.{find_object as object_found};
+ghost use Rattle.std.specs.Prelude.{◌≡◌, ◌↔◌, true, IsTrue, IfSome, IfOk, IfErr};
+ghost use Rattle.fs_rules.specs.Checks.{find_object as object_found, is_live as is_live_place};
+ghost use Rattle.fs_rules.specs.Places.{leads_to};
+ghost use Rattle.fs_rules.specs.Tree.{Tree};
+ghost use Rattle.fs_rules.specs.declared.place.Place.TheVariants.{Live as LivePlace};
 ghost use Rattle.fs_rules.specs.Sound.{IsSound};
 ghost use Rattle.pairs.specs.Told.{Goes};
-ghost use Rattle.procs_object.specs.Finding.{IsOfLive, Begins, IsObject, CheckedOn};
+ghost use Rattle.fs_shows.specs.Steps.{Reads, GivesUpOn};
+ghost use Rattle.procs_object.specs.Finding.{IsOfLive, Begins, IsObject, IsLed, CheckedOn};
 
 use fs_keys::{First, Inode};
 use fs_rules::Place;
 use fs_shows::Halt;
 use inode_ops::{first, load};
 use nfs3_types::{Fattr, Handle, Status};
+use pair_types::PairFault;
 use pairs::{At, Pairs};
 use std::alloc::Global;
 
@@ -35,6 +40,46 @@ pub fn is_of_live(handle: &[u8]) -> bool
     }
 }
 
+/// Whether it stands in the live tree.
+pub fn is_live(place: Place) -> bool
+    ensures { result ≡ is_live_place place }
+{
+    match place {
+        Place::Live(_) => true,
+        Place::SnapshotDirectory => false,
+        Place::Kept(_, _) => false,
+    }
+}
+
+/// What a number leads to in the live tree, where this is the number of the file system, or that it leads to nothing.
+#[tactic(none)]
+pub fn find_child<P: Pairs>(
+    alloc: Global,
+    pairs: &mut P,
+    fsid: u64,
+    fileid: u64,
+) -> Result<Option<Found>, PairFault>
+    ensures goes { Goes P.told pairs.old pairs.new 0 }
+    ensures ok { IfOk result (λ found. Reads P.told pairs.old pairs.new (λ t. t.fsid ≡ fsid)
+        (λ t. IsLed t found (leads_to t (LivePlace fileid)))) }
+    ensures place { IfOk result (λ found. IfSome found (λ x. x.place ≡ LivePlace fileid)) }
+    ensures fault { IfErr result (GivesUpOn P.told pairs.old pairs.new (λ (t : Tree). t.fsid ≡ fsid)) }
+{
+    let found = match load(alloc, pairs, At::Live, fileid) {
+        Ok(found) => found,
+        Err(fault) => return Err(fault),
+    };
+    let Some(inode) = found else {
+        return Ok(None);
+    };
+    let attributes = inode.head.kept.attributes(fsid, fileid, inode.head.size);
+    Ok(Some(Found {
+        place: Place::Live(fileid),
+        inode,
+        attributes,
+    }))
+}
+
 /// What a handle leads to, where this is the first record: BADHANDLE where it is not 24 bytes long, and STALE where it names
 /// nothing.
 #[tactic(none)]
@@ -48,6 +93,7 @@ pub fn find_object<P: Pairs>(
     ensures goes { Goes P.told pairs.old pairs.new 0 }
     ensures check { CheckedOn P.told pairs.old pairs.new (Begins begins.now) IsObject
         (λ t. object_found t handle.now) result }
+    ensures live { IfOk result (λ x. is_live_place x.place ≡ true) }
 {
     let Some(h) = Handle::of(handle) else {
         return Err(Halt::Refused(Status::BadHandle));
@@ -55,22 +101,14 @@ pub fn find_object<P: Pairs>(
     if h.fsid != begins.fsid {
         return Err(Halt::Refused(Status::Stale));
     }
-    let found = match load(alloc, pairs, At::Live, h.fileid) {
+    let found = match find_child(alloc, pairs, h.fsid, h.fileid) {
         Ok(found) => found,
         Err(fault) => return Err(Halt::Fault(fault)),
     };
-    let Some(inode) = found else {
-        return Err(Halt::Refused(Status::Stale));
-    };
-    let attributes = inode
-        .head
-        .kept
-        .attributes(begins.fsid, h.fileid, inode.head.size);
-    Ok(Found {
-        place: Place::Live(h.fileid),
-        inode,
-        attributes,
-    })
+    match found {
+        Some(x) => Ok(x),
+        None => Err(Halt::Refused(Status::Stale)),
+    }
 }
 
 /// What a handle leads to, by the first record that lies below.
@@ -79,6 +117,7 @@ pub fn see<P: Pairs>(alloc: Global, pairs: &mut P, handle: &[u8]) -> Result<Foun
     requires { IsOfLive handle.now }
     ensures goes { Goes P.told pairs.old pairs.new 0 }
     ensures check { CheckedOn P.told pairs.old pairs.new IsSound IsObject (λ t. object_found t handle.now) result }
+    ensures live { IfOk result (λ x. is_live_place x.place ≡ true) }
 {
     let begins = match first(alloc, pairs) {
         Ok(begins) => begins,

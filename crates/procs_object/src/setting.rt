@@ -10,24 +10,13 @@ ghost use Rattle.procs_object.specs.Finding.{IsOfLive};
 ghost use Rattle.procs_object.specs.Performing.{Performs};
 ghost use Rattle.procs_object.specs.Planning.{plan_for};
 
-use crate::object::{Found, see};
-use fs_rules::{Place, SetAttrPlan, apply_sattr, sattr_fault, wcc_of};
+use crate::object::{Found, is_live, see};
+use fs_rules::{SetAttrPlan, apply_sattr, sattr_fault, wcc_of};
 use fs_shows::Halt;
 use inode_ops::describe;
 use nfs3_types::{Body, Cred, Moment, SetAttrArgs, Status, Text};
 use pairs::Pairs;
 use std::alloc::Global;
-
-/// Whether it stands in the live tree.
-fn is_live(place: Place) -> bool
-    ensures { result ≡ is_live_place place }
-{
-    match place {
-        Place::Live(_) => true,
-        Place::SnapshotDirectory => false,
-        Place::Kept(_, _) => false,
-    }
-}
 
 /// Whether the guard is another time than this.
 fn is_guarded(guard: Option<Moment>, time: Moment) -> bool

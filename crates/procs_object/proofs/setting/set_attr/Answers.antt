@@ -1,5 +1,5 @@
 -- The plan is made from what the handle leads to, done by one edit, and told.
-use Rattle.std.proofs.Common.{◌≡◌, List, ℕ, Some, Ok, Err, refl, sym, ap, subst, arith}
+use Rattle.std.proofs.Common.{List, ℕ, Some, Ok, Err, refl, sym, ap, subst, arith}
 use Rattle.nfs3_types.specs.declared.body.Body.TheVariants.{SetAttr}
 use Rattle.fs_rules.specs.declared.plans.SetAttrPlan.{SetAttrPlan}
 use Rattle.fs_rules.specs.Attributes.{wcc_of}

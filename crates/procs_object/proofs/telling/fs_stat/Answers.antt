@@ -10,11 +10,14 @@ see-requires g c = c.requires
 
 pub returns-in-Ok : goal.returns-in-Ok
 returns-in-Ok g c =
-    tells g.P.Pairs.told c.args.pairs.now c.see.new.pairs (λ t. find_object t c.args.handle.now) (λ t. told t (fs_stat t c.args.handle.now))
+    tells g.P.Pairs.told c.args.pairs.now c.see.new.pairs (λ t. find_object t c.args.handle.now)
+    (λ t. told t (fs_stat t c.args.handle.now))
     c.in-Ok.o c.in-Ok.ensures.check 0 (stat-body c.in-Ok.o.attributes) c.see.ensures.goes
     (λ t o found is. fs_stat-told t c.args.handle.now c.in-Ok.o o found is)
 
 pub returns-in-Err : goal.returns-in-Err
 returns-in-Err g c =
-    halts g.P.Pairs.told c.args.pairs.now c.see.new.pairs (λ t. find_object t c.args.handle.now) (λ t. told t (fs_stat t c.args.handle.now)) 0
-    c.see.ensures.goes (λ t status refused. fs_stat-refused t c.args.handle.now status refused) c.in-Err.halt c.in-Err.ensures.check
+    halts g.P.Pairs.told c.args.pairs.now c.see.new.pairs (λ t. find_object t c.args.handle.now)
+    (λ t. told t (fs_stat t c.args.handle.now)) 0
+    c.see.ensures.goes (λ t status refused. fs_stat-refused t c.args.handle.now status refused) c.in-Err.halt
+    c.in-Err.ensures.check
