@@ -1,42 +1,37 @@
 -- A directory gains a name, and loses one: what its inode says then, and what its rows do.
 use Rattle.std.proofs.Common.{◌≡◌, ℕ, ◌+◌, ◌<◌, ◌≤◌, ◌^◌, Bool, true, false, if◌then◌else◌, List, [], ◌∷◌, ◌++◌, length, Option}
 use Rattle.std.proofs.Common.{Some, None}
-use Rattle.std.proofs.Common.{refl, sym, ◌∙◌, ap, subst, arith}
-use Rattle.std.specs.Prelude.{⊤, All, IsSome, IsSomeAnd, option_map}
+use Rattle.std.proofs.Common.{refl, sym, ◌∙◌, ap, subst}
+use Rattle.std.specs.Prelude.{⊤, IsSomeAnd, option_map}
 use Rattle.nfs3_types.specs.declared.file_type.FileType.{FileType}
 use Rattle.nfs3_types.specs.declared.moment.Moment.{Moment}
 use Rattle.pair_types.specs.declared.fault.PairFault.TheVariants.{Odd}
 use Rattle.pairs.specs.declared.at.At.TheVariants.{Live}
-use Rattle.pairs.specs.Versions.{Versions, HasLives, with_put}
-use Rattle.pairs.specs.Told.{PairsTold, Goes, Tells, Moves}
+use Rattle.pairs.specs.Versions.{Versions, with_put}
+use Rattle.pairs.specs.Told.{PairsTold, Goes, Tells}
 use Rattle.fs_rules.specs.declared.inode.Inode.{Inode as Kept}
 use Rattle.fs_rules.specs.declared.name_entry.NameEntry.{NameEntry}
 use Rattle.fs_rules.specs.Attributes.{is_directory, size_of}
 use Rattle.fs_rules.specs.Edits.{touch, add_name, add_link, edit_node, with_node}
 use Rattle.fs_rules.specs.Limits.{longest_name}
 use Rattle.fs_rules.specs.Making.{gain_name}
-use Rattle.fs_rules.specs.Names.{named}
-use Rattle.fs_rules.specs.Places.{names_of}
 use Rattle.fs_rules.specs.Tree.{Tree, Node}
-use Rattle.fs_keys.specs.declared.key_parts.KeyParts.TheVariants.{Inode as InodeKey, Name as NameKey}
+use Rattle.fs_keys.specs.declared.key_parts.KeyParts.TheVariants.{Inode as InodeKey}
 use Rattle.fs_keys.specs.declared.inode.Inode.{Inode}
-use Rattle.fs_keys.specs.declared.rows.NameRow.{NameRow}
 use Rattle.fs_keys.specs.Inodes.{inode_of, value_of}
 use Rattle.fs_keys.specs.Keys.{key_of}
-use Rattle.fs_keys.specs.Values.{name_in}
 use Rattle.fs_shows.specs.Extents.{row}
-use Rattle.fs_shows.specs.Nodes.{Holds, IsInodeOf, bytes_of, name_row, numbered}
+use Rattle.fs_shows.specs.Nodes.{Holds, IsInodeOf, bytes_of, numbered}
 use Rattle.fs_shows.specs.Shows.{Shows}
 use Rattle.fs_shows.specs.Steps.{Edits, GivesUpOn}
 use Rattle.fs_shows.specs.Views.{IsThere}
 use Rattle.fs_shows.proofs.Doing.{Does, KeepsLives, does-tell, does-move, does-then, edits-of, up-odd}
 use Rattle.fs_shows.proofs.InodeEdits.{node-held}
-use Rattle.fs_shows.proofs.NameLists.{entry_of, without, IsAlone, alone-names}
-use Rattle.fs_shows.proofs.NameEdits.{keeps-entry, keeps-no-entry, name-added, name-dropped}
-use Rattle.fs_shows.proofs.Viewing.{holds-same}
+use Rattle.fs_shows.proofs.NameLists.{entry_of}
+use Rattle.fs_shows.proofs.NameEdits.{keeps-entry, name-added}
 use Rattle.inode_ops.specs.Saving.{Saves}
-use Rattle.dir_ops.specs.Directories.{gained_by, CanGain, CanAdd, lost_by, lose_entry, CanDrop}
-use Rattle.dir_ops.specs.Entries.{with_entry, without_entry, PutsEntry}
+use Rattle.dir_ops.specs.Directories.{gained_by, CanGain, CanAdd}
+use Rattle.dir_ops.specs.Entries.{with_entry, PutsEntry}
 
 abbrev pub kept_as : Inode → Kept → Inode
 kept_as i kept = record i { head = record i.head { kept = kept } }

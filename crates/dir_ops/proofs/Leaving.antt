@@ -1,5 +1,5 @@
 -- A directory loses a name: what its inode says then, and what its rows do.
-use Rattle.std.proofs.Common.{◌≡◌, ℕ, ◌-◌, ◌<◌, ◌≤◌, ◌^◌, Bool, true, false, List, length, Option, Some, None}
+use Rattle.std.proofs.Common.{◌≡◌, ℕ, ◌<◌, ◌≤◌, ◌^◌, Bool, true, false, List, length, Option, Some, None}
 use Rattle.std.proofs.Common.{refl, sym, ◌∙◌, ap, subst}
 use Rattle.std.specs.Prelude.{⊤, All, IsSome, IsSomeAnd, option_map}
 use Rattle.nfs3_types.specs.declared.moment.Moment.{Moment}
@@ -22,7 +22,7 @@ use Rattle.fs_keys.specs.Inodes.{inode_of, value_of}
 use Rattle.fs_keys.specs.Keys.{key_of}
 use Rattle.fs_keys.specs.Values.{name_in}
 use Rattle.fs_shows.specs.Extents.{row}
-use Rattle.fs_shows.specs.Nodes.{Holds, IsInodeOf, bytes_of, name_row}
+use Rattle.fs_shows.specs.Nodes.{Holds, IsInodeOf, name_row}
 use Rattle.fs_shows.specs.Shows.{Shows}
 use Rattle.fs_shows.specs.Steps.{Edits, GivesUpOn}
 use Rattle.fs_shows.specs.Views.{IsThere}

@@ -1,5 +1,5 @@
 -- What the record of a name says of the tree.
-use Rattle.std.proofs.Common.{◌≡◌, ℕ, ◌<◌, ◌≤◌, ◌^◌, List, length, Option, Some, None, sym, ◌∙◌, subst}
+use Rattle.std.proofs.Common.{◌≡◌, ℕ, ◌<◌, ◌≤◌, ◌^◌, List, length, Option, Some, None, ◌∙◌, subst}
 use Rattle.std.specs.Prelude.{option_map}
 use Rattle.pair_types.specs.declared.fault.PairFault.TheVariants.{Odd}
 use Rattle.pairs.specs.declared.at.At.{At}

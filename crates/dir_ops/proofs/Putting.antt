@@ -1,5 +1,5 @@
 -- The two records of a name are put one after the other, and ended so.
-use Rattle.std.proofs.Common.{◌≡◌, ℕ, ◌<◌, ◌≤◌, ◌^◌, List, length, Some}
+use Rattle.std.proofs.Common.{ℕ, ◌<◌, ◌≤◌, ◌^◌, List, length}
 use Rattle.std.specs.Prelude.{⊤}
 use Rattle.pair_types.specs.declared.fault.PairFault.{PairFault}
 use Rattle.pairs.specs.Versions.{Versions, HasLives, with_put, with_del}
@@ -11,7 +11,7 @@ use Rattle.fs_keys.specs.Keys.{key_of}
 use Rattle.fs_shows.proofs.Apart.{short-name}
 use Rattle.fs_shows.proofs.Rewriting.{keeps-put, keeps-del}
 use Rattle.fs_shows.proofs.NameEdits.{name-first}
-use Rattle.fs_shows.proofs.Doing.{Does, does-move, does-then, put-up-behind, up-behind-del}
+use Rattle.fs_shows.proofs.Doing.{does-move, does-then, put-up-behind, up-behind-del}
 use Rattle.dir_ops.specs.Entries.{PutsName, PutsCookie, PutsEntry, cookie_row_of, without_entry}
 
 module _ {S W : Type 0} (told : PairsTold S W) (old mid new : S) (id : ℕ) (name : List ℕ) where
