@@ -1,0 +1,4 @@
+pub mod Behind
+pub mod Filling
+pub mod Pages
+pub mod Rows
