@@ -1,5 +1,6 @@
 -- The table's plans, taken apart into what is asked before a name is looked up, the look-up, and what is asked behind it.
-use Rattle.std.proofs.Common.{◌≡◌, ◌∙◌, ℕ, ◌≤◌, nat_lt, Bool, true, false, not, if◌then◌else◌, List, length, refl, sym, ap, subst, Option, Some, None, Ok, Err}
+use Rattle.std.proofs.Common.{◌≡◌, ◌∙◌, ℕ, ◌≤◌, nat_lt, Bool, true, false, not, if◌then◌else◌, List, length, refl, sym, ap}
+use Rattle.std.proofs.Common.{subst, Option, Some, None, Ok, Err}
 use Rattle.std.specs.Prelude.{◌==◌, ◌&&◌, option_map, IfSome, IsSome}
 use Rattle.std.proofs.lemmas.Bool.{ltb-false, eq-eqb}
 use Rattle.nfs3_types.specs.declared.args.DirOp.{DirOp}
@@ -18,7 +19,8 @@ use Rattle.fs_rules.specs.Attributes.{attributes_of, is_directory}
 use Rattle.fs_rules.specs.Checks.{Check, ◌>>=◌, find_directory, find_object, is_live, refuse_if, some_or}
 use Rattle.fs_rules.specs.Limits.{longest_name}
 use Rattle.fs_rules.specs.Names.{is_dots, name_fault, named}
-use Rattle.fs_rules.specs.Places.{Object, attributes, entry_at, fileid_at, fsid_at, is_snapshots_name, leads_to, names_of, no_snapshot, node_at, object_at, object_by, object_of, place_of, shown}
+use Rattle.fs_rules.specs.Places.{Object, attributes, entry_at, fileid_at, fsid_at, is_snapshots_name, leads_to, names_of}
+use Rattle.fs_rules.specs.Places.{no_snapshot, node_at, object_at, object_by, object_of, place_of, shown}
 use Rattle.fs_rules.specs.Removing.{find_removable, may_alter, remove_plan}
 use Rattle.fs_rules.specs.Sound.{IsSound}
 use Rattle.fs_rules.specs.Tree.{Node, Tree}
@@ -48,7 +50,8 @@ live_place (Kept number id) live = absurd (cc)
 
 -- ---- what was found
 
-past_some : {A G : Type 0} (o : Option A) (status : Status) (next : A → Check Object) (b : Object) → (some_or o status >>= next) ≡ Ok b
+past_some : {A G : Type 0} (o : Option A) (status : Status) (next : A → Check Object) (b : Object) → (some_or o status >>= next)
+    ≡ Ok b
     → ((a : A) → o ≡ Some a → next a ≡ Ok b → G) → G
 past_some (Some a) status next b e more = more a refl e
 past_some None status next b e more = absurd (cc)
@@ -111,7 +114,8 @@ module _ (t : Tree) (x : Found) (o : Object) (is : IsObject t x o) where
     found_kind b kind = ap (λ (i : Inode). is_directory i.kind) (sym is.inode.kept) ∙ kind
 
 -- the entries of a live directory
-pub entry_here : (t : Tree) (id : ℕ) (n : Node) (name : List ℕ) → t.nodes id ≡ Some n → entry_at t (Live id) name ≡ named name n.names
+pub entry_here : (t : Tree) (id : ℕ) (n : Node) (name : List ℕ) → t.nodes id ≡ Some n → entry_at t (Live id) name ≡ named name
+    n.names
 unfolding entry_at node_at
 entry_here t id n name is = ap (λ (o : Option Node). named name (names_of o)) is
 
@@ -163,7 +167,8 @@ find_steps t cred d name =
 
 abbrev pub remove_last : Object → Object → Check RemovePlan
 remove_last d o =
-    refuse_if (is_directory o.inode.kind) IsDir >>= (λ _. Ok (record { directory = fileid_at d.place; fileid = fileid_at o.place }))
+    refuse_if (is_directory o.inode.kind) IsDir >>= (λ _. Ok
+    (record { directory = fileid_at d.place; fileid = fileid_at o.place }))
 
 remove_flat : (b : Bool) (q : Check (Unit {0})) (c : Check Object) (last : Object → Check RemovePlan)
     → (refuse_if b Inval >>= (λ _. (q >>= (λ _. c)) >>= last)) ≡ ((refuse_if b Inval >>= (λ _. q)) >>= (λ _. c >>= last))

@@ -11,7 +11,8 @@ use Rattle.fs_rules.specs.declared.place.Place.{Place}
 use Rattle.fs_rules.specs.declared.place.Place.TheVariants.{Live}
 use Rattle.fs_rules.specs.declared.plans.LinkPlan.{LinkPlan}
 use Rattle.fs_rules.specs.Attributes.{is_directory}
-use Rattle.fs_rules.specs.Checks.{Check, ◌>>=◌, find_object, is_live, need, need_directory, need_good_name, need_live, need_search, no_fault, refuse_if}
+use Rattle.fs_rules.specs.Checks.{Check, ◌>>=◌, find_object, is_live, need, need_directory, need_good_name, need_live}
+use Rattle.fs_rules.specs.Checks.{need_search, no_fault, refuse_if}
 use Rattle.fs_rules.specs.Limits.{most_links}
 use Rattle.fs_rules.specs.Making.{is_taken, lacks_cookies, need_free_name}
 use Rattle.fs_rules.specs.Names.{is_dots, name_fault}
@@ -111,7 +112,8 @@ module _ (t : Tree) (cred : Cred) (a : LinkArgs (List ℕ)) (x : Found) (file : 
         (object-place t x file is)
         ∙ ap (λ (i : Inode). need_linkable cred (record { place = x.place; inode = i; size = x.inode.head.size }) d a.link.name)
         (object-inode t x file is)
-        ∙ ap (λ (p : Place). need_linkable cred (seen x) (record { place = p; inode = d.inode; size = y.inode.head.size }) a.link.name)
+        ∙ ap (λ (p : Place). need_linkable cred (seen x) (record { place = p; inode = d.inode; size = y.inode.head.size })
+        a.link.name)
         (object-place t y d of)
         ∙ ap (λ (i : Inode). need_linkable cred (seen x) (record { place = y.place; inode = i; size = y.inode.head.size })
         a.link.name) (object-inode t y d of)
@@ -169,7 +171,9 @@ module _ (t : Tree) (cred : Cred) (a : LinkArgs (List ℕ)) (x : Found) (file : 
       free_by : need_room cred (seen x) (seen y) (is_taken_by y.place a.link.name (is_some row)) ≡ Ok tt
           → entry_at t (Live (fileid_at y.place)) a.link.name ≡ None
       unfolding need_room
-      free_by room = no_entry _ row said (none_taken (is_dots a.link.name || is_snapshots_name y.place a.link.name) (is_some row) _ room)
+      free_by room =
+          no_entry _ row said
+          (none_taken (is_dots a.link.name || is_snapshots_name y.place a.link.name) (is_some row) _ room)
 
       -- the plan is made
       pub link_plans : is_directory x.inode.head.kept.kind ≡ false → is_directory y.inode.head.kept.kind ≡ true

@@ -19,7 +19,8 @@ module _ {S W : Type 0} (told : PairsTold S W) where
     -- a check ended the whole
     pub check-halted : (old new : S) (Given : Tree → Type 0)
         → ((t : Tree) (status : Status) → check t ≡ Err status → whole t ≡ Err status)
-        → (halt : Halt) → CheckedOn told old new Given Finds check (Err halt) → CheckedOn told old new Given Gives whole (Err halt)
+        → (halt : Halt) → CheckedOn told old new Given Finds check (Err halt) → CheckedOn told old new Given Gives whole
+        (Err halt)
     check-halted old new Given says (Refused status) checked =
         reads-more told old new Given Given (λ t. check t ≡ Err status) (λ t. whole t ≡ Err status) (λ t given. given)
         (λ t given refused. says t status refused) checked
@@ -29,7 +30,8 @@ module _ {S W : Type 0} (told : PairsTold S W) where
     pub check-behind : (old mid new : S) (m : ℕ) (Q Given : Tree → Type 0) → Goes told old mid m → Goes told mid new 0
         → Reads told old mid IsSound Q → ((t : Tree) → IsSound t → Q t → Given t)
         → ((t : Tree) (status : Status) → Q t → check t ≡ Err status → whole t ≡ Err status)
-        → (halt : Halt) → CheckedOn told mid new Given Finds check (Err halt) → CheckedOn told old new IsSound Gives whole (Err halt)
+        → (halt : Halt) → CheckedOn told mid new Given Finds check (Err halt) → CheckedOn told old new IsSound Gives whole
+        (Err halt)
     check-behind old mid new m Q Given before goes reads given says (Refused status) checked =
         reads-more told old new IsSound IsSound (λ t. Q t × (check t ≡ Err status)) (λ t. whole t ≡ Err status) (λ t sound. sound)
         (λ t sound known. says t status known.0 known.1)
@@ -37,15 +39,22 @@ module _ {S W : Type 0} (told : PairsTold S W) where
     check-behind old mid new m Q Given before goes reads given says (Fault fault) up =
         gathers-up told old mid new Q Given goes reads given m before fault up
 
-  -- the check is that of an equal argument
-  pub checked-as : {I A X : Type 0} (old new : S) (Given : Tree → Type 0) (Finds : Tree → X → A → Type 0)
-      (check : I → Tree → Check A) (r : Result X Halt) (i j : I) → i ≡ j → CheckedOn told old new Given Finds (check i) r
+  -- a check of equal arguments
+  pub checked-as : {I A X : Type 0} {i j : I} (old new : S) (Given : Tree → Type 0) (Finds : Tree → X → A → Type 0)
+      (check : I → Tree → Check A) (r : Result X Halt) → i ≡ j → CheckedOn told old new Given Finds (check i) r
       → CheckedOn told old new Given Finds (check j) r
-  checked-as old new Given Finds check r i j same checked =
-      subst (λ i. CheckedOn told old new Given Finds (check i) r) same checked
+  checked-as old new Given Finds check r same checked = subst (λ i. CheckedOn told old new Given Finds (check i) r) same checked
+
+  pub checked-at : {I J A X : Type 0} {i k : I} {j l : J} (old new : S) (Given : Tree → Type 0) (Finds : Tree → X → A → Type 0)
+      (check : I → J → Tree → Check A) (r : Result X Halt) → i ≡ k → j ≡ l → CheckedOn told old new Given Finds (check i j) r
+      → CheckedOn told old new Given Finds (check k l) r
+  checked-at {i = i} {l = l} old new Given Finds check r one other checked =
+      checked-as old new Given Finds (λ i t. check i l t) r one
+      (checked-as old new Given Finds (λ j t. check i j t) r other checked)
 
   -- a check ended the procedure
-  pub check-ends : {A X : Type 0} (old new : S) (Finds : Tree → X → A → Type 0) (check : Tree → Check A) (row : Tree → Row) (most : ℕ)
+  pub check-ends : {A X : Type 0} (old new : S) (Finds : Tree → X → A → Type 0) (check : Tree → Check A) (row : Tree → Row)
+      (most : ℕ)
       → Goes told old new most → ((t : Tree) (status : Status) → check t ≡ Err status → row t ≡ Err status)
       → (halt : Halt) → CheckedOn told old new IsSound Finds check (Err halt) → Performs told old new most row (Err halt)
   check-ends old new Finds check row most goes says (Refused status) checked =

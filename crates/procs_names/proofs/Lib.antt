@@ -6,3 +6,4 @@ pub mod Checked
 pub mod Entries
 pub mod Looked
 pub mod Joined
+pub mod Emptied

@@ -12,10 +12,12 @@ use Rattle.fs_rules.specs.declared.inode.Inode.{Inode}
 use Rattle.fs_rules.specs.declared.name_entry.NameEntry.{NameEntry}
 use Rattle.fs_rules.specs.declared.place.Place.{Place}
 use Rattle.fs_rules.specs.declared.place.Place.TheVariants.{Live, SnapshotDirectory}
-use Rattle.fs_rules.specs.Checks.{Check, ◌>>=◌, find_object, is_live, need_directory, need_good_name, need_search, no_fault, refuse_if, some_or, told}
+use Rattle.fs_rules.specs.Checks.{Check, ◌>>=◌, find_object, is_live, need_directory, need_good_name, need_search, no_fault}
+use Rattle.fs_rules.specs.Checks.{refuse_if, some_or, told}
 use Rattle.fs_rules.specs.Looking.{lookup}
 use Rattle.fs_rules.specs.Names.{is_dot, is_dot_dot, name_fault}
-use Rattle.fs_rules.specs.Places.{Object, attributes, beside, entry_at, fileid_at, handle_at, is_snapshots_name, leads_to, place_named}
+use Rattle.fs_rules.specs.Places.{Object, attributes, beside, entry_at, fileid_at, handle_at, is_snapshots_name, leads_to}
+use Rattle.fs_rules.specs.Places.{place_named}
 use Rattle.fs_rules.specs.Tree.{Tree}
 use Rattle.procs_object.specs.declared.object.Found.{Found}
 use Rattle.procs_object.specs.Finding.{IsObject}
@@ -43,8 +45,10 @@ lookup_next t cred name d =
     need_directory d >>= (λ _. need_good_name name >>= (λ _. need_search cred d >>= (λ _. some_or (place_named t d name) NoEnt
     >>= (λ place. some_or (leads_to t place) NoEnt >>= lookup_last t d))))
 
-lookup_flat : (a : Bool) (f : Option Status) (b : Bool) (o : Option Place) (leads : Place → Check Object) (last : Object → Check Body)
-    → (refuse_if a NotDir >>= (λ _. no_fault f >>= (λ _. refuse_if b Acces >>= (λ _. some_or o NoEnt >>= (λ p. leads p >>= last)))))
+lookup_flat : (a : Bool) (f : Option Status) (b : Bool) (o : Option Place) (leads : Place → Check Object)
+    (last : Object → Check Body)
+    → (refuse_if a NotDir >>= (λ _. no_fault f >>= (λ _. refuse_if b Acces >>=
+    (λ _. some_or o NoEnt >>= (λ p. leads p >>= last)))))
     ≡ ((refuse_if a NotDir >>= (λ _. no_fault f >>= (λ _. refuse_if b Acces))) >>= (λ _. (some_or o NoEnt >>= leads) >>= last))
 lookup_flat true f b o leads last = refl
 lookup_flat false (Some status) b o leads last = refl
@@ -142,7 +146,8 @@ module _ (t : Tree) (cred : Cred) (a : DirOp (List ℕ)) (x : Found) (d : Object
 
 -- ---- the row
 
-pub told_of : (t : Tree) (check : Check Body) (body : Body) → check ≡ Ok body → told t check ≡ Ok (record { body = body; tree = t })
+pub told_of : (t : Tree) (check : Check Body) (body : Body) → check ≡ Ok body → told t check ≡ Ok
+    (record { body = body; tree = t })
 told_of t check body is = ap (λ (c : Check Body). told t c) is
 
 pub told_not : (t : Tree) (check : Check Body) (status : Status) → check ≡ Err status → told t check ≡ Err status

@@ -1,5 +1,6 @@
 -- On a sound tree the edits of REMOVE, RMDIR and LINK may be made, once their checks have passed.
-use Rattle.std.proofs.Common.{◌≡◌, ◌∙◌, ℕ, ◌≤◌, Bool, true, false, if◌then◌else◌, List, [], refl, sym, ap, subst, Option, Some, None}
+use Rattle.std.proofs.Common.{◌≡◌, ◌∙◌, ℕ, ◌≤◌, Bool, true, false, if◌then◌else◌, List, [], refl, sym, ap, subst, Option, Some}
+use Rattle.std.proofs.Common.{None}
 use Rattle.std.proofs.Common.{option_and_then, option_map}
 use Rattle.std.proofs.lemmas.Bool.{eq-eqb, ne_eqb, false≢true}
 use Rattle.std.specs.Prelude.{⊤, IfSome, IsSome, IsSomeAnd}
@@ -28,7 +29,8 @@ use Rattle.procs_names.specs.Naming.{IsLinking, IsRemoval}
 use Rattle.procs_names.specs.Readying.{CanRemove, CanRemoveDirectory, CanLink, with_link}
 
 -- a name of what is no directory costs no link
-pub gains-plain : (kind : FileType) (name : List ℕ) (file : ℕ) (now : Moment) (directory : ℕ) (t : Tree) → is_directory kind ≡ false
+pub gains-plain : (kind : FileType) (name : List ℕ) (file : ℕ) (now : Moment) (directory : ℕ) (t : Tree) → is_directory kind ≡
+    false
     → edit_node directory (gain_name kind name file now) t ≡ edit_node directory (λ n. touch now (add_name name file n)) t
 gains-plain kind name file now directory t plain =
     ap (λ (b : Bool). edit_node directory (λ n. touch now (add_name name file (if b then add_link n else n))) t) plain

@@ -25,7 +25,8 @@ use Rattle.procs_names.specs.declared.linking.Linking.{Linking}
 use Rattle.procs_names.specs.declared.removing.Removal.{Removal}
 use Rattle.procs_names.specs.Naming.{IsLinking, IsRemoval}
 use Rattle.procs_names.specs.Readying.{CanLink, CanRemove, linked, linked_more, touched, touched_less, with_link}
-use Rattle.procs_names.proofs.Readied.{can_link, can_remove, edited_elsewhere, edited_here, few_links, linked_other, lost_elsewhere, removed_other}
+use Rattle.procs_names.proofs.Readied.{can_link, can_remove, edited_elsewhere, edited_here, few_links, linked_other}
+use Rattle.procs_names.proofs.Readied.{lost_elsewhere, removed_other}
 
 -- ---- what is shown of a live node
 
@@ -56,7 +57,7 @@ module _ (fsid id : ℕ) (now : Moment) (name : List ℕ) (file : ℕ) (n : Node
   unfolding attributes_of size_of
   lost_name = refl
 
-  lost_directory : attributes_of fsid id (touch now (drop_link (drop_name name n))).inode (length n.content)
+  pub lost_directory : attributes_of fsid id (touch now (drop_link (drop_name name n))).inode (length n.content)
       ≡ touched_less now (attributes_of fsid id n.inode (length n.content))
   unfolding attributes_of size_of
   lost_directory = refl
@@ -89,7 +90,8 @@ module _ (t : Tree) (s : IsSound t) (cred : Cred) (a : DirOp (List ℕ)) (now : 
   removed_shown : shown (remove_file now plan.directory a.name plan.fileid t) (Live plan.directory)
       ≡ Some (touched now x.directory)
   removed_shown =
-      shown_after t (remove_file now plan.directory a.name plan.fileid t) plan.directory r.above (touch now (drop_name a.name r.above))
+      shown_after t (remove_file now plan.directory a.name plan.fileid t) plan.directory r.above
+      (touch now (drop_name a.name r.above))
       x.directory (touched now) removed_fsid r.directory r.before removed_directory
       (lost_name t.fsid plan.directory now a.name plan.fileid r.above)
 
@@ -116,7 +118,8 @@ module _ (t : Tree) (s : IsSound t) (cred : Cred) (a : DirOp (List ℕ)) (now : 
   removal_can =
       subst (λ (p : RemovePlan). CanRemove now p.directory a.name p.fileid t) r.is (can_remove t s a.name x plan r now)
 
-pub remove_refused : (t : Tree) (cred : Cred) (a : DirOp (List ℕ)) (now : Moment) (status : Status) → remove_plan t cred a ≡ Err status
+pub remove_refused : (t : Tree) (cred : Cred) (a : DirOp (List ℕ)) (now : Moment) (status : Status) → remove_plan t cred a ≡ Err
+    status
     → remove t cred a now ≡ Err status
 unfolding remove
 remove_refused t cred a now status refused =
@@ -168,7 +171,10 @@ module _ (t : Tree) (s : IsSound t) (cred : Cred) (a : LinkArgs (List ℕ)) (now
   unfolding link
   linked_by w more is is_more =
       ap (λ (c : Check LinkPlan). done c (λ plan. linked now plan.directory a.link.name plan.file t)
-      (λ plan after. Link (record { attributes = shown after (Live plan.file); directory = change t after (Live plan.directory) })))
+      (λ plan after. Link (record {
+        attributes = shown after (Live plan.file);
+        directory = change t after (Live plan.directory);
+      })))
       planned
       ∙ ap (λ (o : Option Fattr). Ok (record {
         body = Link (record {
@@ -181,7 +187,8 @@ module _ (t : Tree) (s : IsSound t) (cred : Cred) (a : LinkArgs (List ℕ)) (now
         body = Link (record { attributes = Some more; directory = w });
         tree = linked now plan.directory a.link.name plan.file t;
       }))
-      (ap (λ (o : Option Fattr). wcc_of o (shown (linked now plan.directory a.link.name plan.file t) (Live plan.directory))) l.before
+      (ap (λ (o : Option Fattr). wcc_of o (shown (linked now plan.directory a.link.name plan.file t) (Live plan.directory)))
+      l.before
       ∙ ap (λ (o : Option Fattr). wcc_of (Some x.directory) o) linked_shown ∙ sym is)
 
   -- the plan is done, and told
@@ -202,7 +209,8 @@ module _ (t : Tree) (s : IsSound t) (cred : Cred) (a : LinkArgs (List ℕ)) (now
   linking_can =
       subst (λ (p : LinkPlan). CanLink now p.directory a.link.name p.file t) l.is (can_link t s a.link.name x plan l now)
 
-pub link_refused : (t : Tree) (cred : Cred) (a : LinkArgs (List ℕ)) (now : Moment) (status : Status) → link_plan t cred a ≡ Err status
+pub link_refused : (t : Tree) (cred : Cred) (a : LinkArgs (List ℕ)) (now : Moment) (status : Status) → link_plan t cred a ≡ Err
+    status
     → link t cred a now ≡ Err status
 unfolding link
 link_refused t cred a now status refused =

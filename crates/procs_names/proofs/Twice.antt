@@ -16,7 +16,8 @@ module _ {S W : Type 0} (told : PairsTold S W) where
   edit-up-given old new Given Less less HeightFull up = up
   edit-up-given old new Given Less less (Page fault) up = up
 
-  module _ (old mid new : S) (m n : ℕ) (before : Goes told old mid m) (goes : Goes told mid new n) (Given Less Then : Tree → Type 0)
+  module _ (old mid new : S) (m n : ℕ) (before : Goes told old mid m) (goes : Goes told mid new n)
+      (Given Less Then : Tree → Type 0)
       (edit : Tree → Tree) (first : Edits told old mid Less edit) (less : (t : Tree) → Given t → Less t)
       (then : (t : Tree) → Given t → Then (edit t)) where
     first-given : Edits told old mid Given edit

@@ -1,5 +1,6 @@
 -- What is asked of a directory and of a name before the name is looked up, where the name leads, and what is found.
-use Rattle.std.specs.Prelude.{◌≡◌, ◌||◌, nat_le, Bool, true, false, ℕ, List, Option, Some, None, IfSome, IsSome, [], if◌then◌else◌}
+use Rattle.std.specs.Prelude.{◌≡◌, ◌||◌, nat_le, Bool, true, false, ℕ, List, Option, Some, None, IfSome, IsSome, []}
+use Rattle.std.specs.Prelude.{if◌then◌else◌}
 use Rattle.nfs3_types.specs.declared.args.DirOp.{DirOp}
 use Rattle.nfs3_types.specs.declared.attributes.Fattr.{Fattr}
 use Rattle.nfs3_types.specs.declared.body.Body.{Body}
@@ -12,7 +13,8 @@ use Rattle.fs_rules.specs.declared.place.Place.TheVariants.{Live}
 use Rattle.fs_rules.specs.declared.plans.LinkPlan.{LinkPlan}
 use Rattle.fs_rules.specs.declared.plans.RemovePlan.{RemovePlan}
 use Rattle.fs_rules.specs.Attributes.{is_directory}
-use Rattle.fs_rules.specs.Checks.{Check, ◌>>=◌, find_object, is_live, need, need_directory, need_good_name, need_live, need_search}
+use Rattle.fs_rules.specs.Checks.{Check, ◌>>=◌, find_object, is_live, need, need_directory, need_good_name, need_live}
+use Rattle.fs_rules.specs.Checks.{need_search}
 use Rattle.fs_rules.specs.Checks.{refuse_if, some_or}
 use Rattle.fs_rules.specs.Limits.{most_links}
 use Rattle.fs_rules.specs.Making.{lacks_cookies}

@@ -28,7 +28,8 @@ pub(crate) fn stand<P: Pairs>(
     fileid: u64,
 ) -> Result<Found, Halt>
     ensures goes { Goes P.told pairs.old pairs.new 0 }
-    ensures check { CheckedOn P.told pairs.old pairs.new (IsOf fsid) IsObject (λ t. some_or (leads_to t (Live fileid)) NoEnt) result }
+    ensures check { CheckedOn P.told pairs.old pairs.new (IsOf fsid) IsObject
+        (λ t. some_or (leads_to t (Live fileid)) NoEnt) result }
     ensures live { IfOk result (λ x. is_live x.place ≡ true) }
 {
     let found = match find_child(alloc, pairs, fsid, fileid) {

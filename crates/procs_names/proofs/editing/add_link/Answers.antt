@@ -37,7 +37,8 @@ returns-clause-ok g c =
     (CanAdd c.args.directory c.args.name.now) (with_link c.args.now c.args.file) c.in-Ok.ensures.ok
     (λ t can. can.link) (λ t can. can.add)
     (edit_node c.args.directory (gain_name c.args.kind c.args.name.now c.args.file c.args.now))
-    (linked c.args.now c.args.directory c.args.name.now c.args.file) (λ t. gains-plain c.args.kind c.args.name.now c.args.file c.args.now c.args.directory (with_link c.args.now c.args.file t)
+    (linked c.args.now c.args.directory c.args.name.now c.args.file)
+    (λ t. gains-plain c.args.kind c.args.name.now c.args.file c.args.now c.args.directory (with_link c.args.now c.args.file t)
     c.requires.kind))
     c.add.ensures.ok
 

@@ -32,7 +32,8 @@ pub returns-clause-ok : goal.returns-clause-ok
 unfolding drop_directory
 returns-clause-ok g c =
     on_ok_weaker c.drop_directory.result
-    (twice-edits g.P.Pairs.told c.args.pairs.now c.forget.new.pairs c.drop_directory.new.pairs 1 1 c.forget.ensures.goes c.drop_directory.ensures.goes
+    (twice-edits g.P.Pairs.told c.args.pairs.now c.forget.new.pairs c.drop_directory.new.pairs 1 1 c.forget.ensures.goes
+    c.drop_directory.ensures.goes
     (CanRemoveDirectory c.args.directory c.args.name.now c.args.within) (MayGo c.args.within)
     (CanDrop c.args.directory c.args.name.now) (drop_node c.args.within) c.in-Ok.ensures.ok
     (λ t can. can.go) (λ t can. can.drop)
@@ -43,7 +44,8 @@ returns-clause-ok g c =
 pub returns-clause-fault : goal.returns-clause-fault
 returns-clause-fault g c =
     IfErr-weaker c.drop_directory.result _ _
-    (twice-up g.P.Pairs.told c.args.pairs.now c.forget.new.pairs c.drop_directory.new.pairs 1 1 c.forget.ensures.goes c.drop_directory.ensures.goes
+    (twice-up g.P.Pairs.told c.args.pairs.now c.forget.new.pairs c.drop_directory.new.pairs 1 1 c.forget.ensures.goes
+    c.drop_directory.ensures.goes
     (CanRemoveDirectory c.args.directory c.args.name.now c.args.within) (MayGo c.args.within)
     (CanDrop c.args.directory c.args.name.now) (drop_node c.args.within) c.in-Ok.ensures.ok
     (λ t can. can.go) (λ t can. can.drop))

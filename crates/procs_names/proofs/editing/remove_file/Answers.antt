@@ -32,7 +32,8 @@ pub returns-clause-ok : goal.returns-clause-ok
 unfolding remove_file
 returns-clause-ok g c =
     on_ok_weaker c.drop_name.result
-    (twice-edits g.P.Pairs.told c.args.pairs.now c.lose_name.new.pairs c.drop_name.new.pairs 1 1 c.lose_name.ensures.goes c.drop_name.ensures.goes
+    (twice-edits g.P.Pairs.told c.args.pairs.now c.lose_name.new.pairs c.drop_name.new.pairs 1 1 c.lose_name.ensures.goes
+    c.drop_name.ensures.goes
     (CanRemove c.args.now c.args.directory c.args.name.now c.args.file) (MayLose c.args.file)
     (CanDrop c.args.directory c.args.name.now) (lose_name c.args.now c.args.file) c.in-Ok.ensures.ok
     (λ t can. can.lose) (λ t can. can.drop)
@@ -43,7 +44,8 @@ returns-clause-ok g c =
 pub returns-clause-fault : goal.returns-clause-fault
 returns-clause-fault g c =
     IfErr-weaker c.drop_name.result _ _
-    (twice-up g.P.Pairs.told c.args.pairs.now c.lose_name.new.pairs c.drop_name.new.pairs 1 1 c.lose_name.ensures.goes c.drop_name.ensures.goes
+    (twice-up g.P.Pairs.told c.args.pairs.now c.lose_name.new.pairs c.drop_name.new.pairs 1 1 c.lose_name.ensures.goes
+    c.drop_name.ensures.goes
     (CanRemove c.args.now c.args.directory c.args.name.now c.args.file) (MayLose c.args.file)
     (CanDrop c.args.directory c.args.name.now) (lose_name c.args.now c.args.file) c.in-Ok.ensures.ok
     (λ t can. can.lose) (λ t can. can.drop))

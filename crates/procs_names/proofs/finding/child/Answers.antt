@@ -26,7 +26,8 @@ look_up-requires g c = c.requires
 
 pub returns-in-Some-clause-goes : goal.returns-in-Some-clause-goes
 returns-in-Some-clause-goes g c =
-    goes-then g.P.Pairs.told c.args.pairs.now c.look_up.new.pairs c.stand.new.pairs 0 0 c.look_up.ensures.goes c.stand.ensures.goes
+    goes-then g.P.Pairs.told c.args.pairs.now c.look_up.new.pairs c.stand.new.pairs 0 0 c.look_up.ensures.goes
+    c.stand.ensures.goes
 
 pub returns-in-Some-clause-check : goal.returns-in-Some-clause-check
 returns-in-Some-clause-check g c =

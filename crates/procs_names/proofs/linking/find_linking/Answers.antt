@@ -33,8 +33,8 @@ returns-in-Err-clause-check g c =
     check-halted g.P.Pairs.told IsObject (IsLinking c.args.a.now.link.name) (λ t. find_object t c.args.a.now.file)
     (λ t. link_plan t c.args.cred.now c.args.a.now) c.args.pairs.now c.see.new.pairs IsSound
     (λ t status refused. link_halted t c.args.cred.now c.args.a.now status refused) c.in-Err.halt
-    (checked-as g.P.Pairs.told c.args.pairs.now c.see.new.pairs IsSound IsObject (λ handle t. find_object t handle) (Err c.in-Err.halt)
-    c.as_slice.result.now c.args.a.now.file c.as_slice.ensures c.in-Err.ensures.check)
+    (checked-as g.P.Pairs.told c.args.pairs.now c.see.new.pairs IsSound IsObject (λ handle t. find_object t handle)
+    (Err c.in-Err.halt) c.as_slice.ensures c.in-Err.ensures.check)
 
 pub see-requires-2 : goal.see-requires-2
 see-requires-2 g c = subst IsOfLive (sym c.as_slice-2.ensures) c.requires.directory
@@ -48,13 +48,13 @@ returns-in-Err-see-clause-check g c =
     check-behind g.P.Pairs.told IsObject (IsLinking c.args.a.now.link.name) (λ t. find_object t c.args.a.now.link.directory)
     (λ t. link_plan t c.args.cred.now c.args.a.now) c.args.pairs.now c.see.new.pairs c.see-2.new.pairs 0
     (IsSeen c.args.a.now.file c.in-Ok.file) IsSound c.see.ensures.goes c.see-2.ensures.goes
-    (checked-as g.P.Pairs.told c.args.pairs.now c.see.new.pairs IsSound IsObject (λ handle t. find_object t handle) (Ok c.in-Ok.file)
-    c.as_slice.result.now c.args.a.now.file c.as_slice.ensures c.in-Ok.ensures.check)
+    (checked-as g.P.Pairs.told c.args.pairs.now c.see.new.pairs IsSound IsObject (λ handle t. find_object t handle)
+    (Ok c.in-Ok.file) c.as_slice.ensures c.in-Ok.ensures.check)
     (λ t sound known. sound)
     (λ t status known refused. link_lost t c.args.cred.now c.args.a.now c.in-Ok.file known.0 known.1 known.2 status refused)
     c.in-Err-see.halt
-    (checked-as g.P.Pairs.told c.see.new.pairs c.see-2.new.pairs IsSound IsObject (λ handle t. find_object t handle) (Err c.in-Err-see.halt)
-    c.as_slice-2.result.now c.args.a.now.link.directory c.as_slice-2.ensures c.in-Err-see.ensures.check)
+    (checked-as g.P.Pairs.told c.see.new.pairs c.see-2.new.pairs IsSound IsObject (λ handle t. find_object t handle)
+    (Err c.in-Err-see.halt) c.as_slice-2.ensures c.in-Err-see.ensures.check)
 
 pub returns-in-Err-need_linkable-clause-goes : goal.returns-in-Err-need_linkable-clause-goes
 returns-in-Err-need_linkable-clause-goes g c =
@@ -71,11 +71,11 @@ returns-in-Err-need_linkable-clause-check g c =
     (sym c.as_slice-name.ensures) ∙ sym c.in-Err-need_linkable.ensures.check))
     (gathers g.P.Pairs.told c.args.pairs.now c.see.new.pairs c.see-2.new.pairs (IsSeen c.args.a.now.file c.in-Ok.file) IsSound
     c.see-2.ensures.goes
-    (checked-as g.P.Pairs.told c.args.pairs.now c.see.new.pairs IsSound IsObject (λ handle t. find_object t handle) (Ok c.in-Ok.file)
-    c.as_slice.result.now c.args.a.now.file c.as_slice.ensures c.in-Ok.ensures.check)
+    (checked-as g.P.Pairs.told c.args.pairs.now c.see.new.pairs IsSound IsObject (λ handle t. find_object t handle)
+    (Ok c.in-Ok.file) c.as_slice.ensures c.in-Ok.ensures.check)
     (λ t sound known. sound) (IsSeen c.args.a.now.link.directory c.in-Ok-see.d)
-    (checked-as g.P.Pairs.told c.see.new.pairs c.see-2.new.pairs IsSound IsObject (λ handle t. find_object t handle) (Ok c.in-Ok-see.d)
-    c.as_slice-2.result.now c.args.a.now.link.directory c.as_slice-2.ensures c.in-Ok-see.ensures.check))
+    (checked-as g.P.Pairs.told c.see.new.pairs c.see-2.new.pairs IsSound IsObject (λ handle t. find_object t handle)
+    (Ok c.in-Ok-see.d) c.as_slice-2.ensures c.in-Ok-see.ensures.check))
 
 pub look_up-requires : goal.look_up-requires
 look_up-requires g c = c.in-Ok-need_linkable.ensures.short
@@ -93,11 +93,11 @@ returns-in-Err-look_up-clause-check g c =
     c.look_up.ensures.goes
     (gathers g.P.Pairs.told c.args.pairs.now c.see.new.pairs c.see-2.new.pairs (IsSeen c.args.a.now.file c.in-Ok.file) IsSound
     c.see-2.ensures.goes
-    (checked-as g.P.Pairs.told c.args.pairs.now c.see.new.pairs IsSound IsObject (λ handle t. find_object t handle) (Ok c.in-Ok.file)
-    c.as_slice.result.now c.args.a.now.file c.as_slice.ensures c.in-Ok.ensures.check)
+    (checked-as g.P.Pairs.told c.args.pairs.now c.see.new.pairs IsSound IsObject (λ handle t. find_object t handle)
+    (Ok c.in-Ok.file) c.as_slice.ensures c.in-Ok.ensures.check)
     (λ t sound known. sound) (IsSeen c.args.a.now.link.directory c.in-Ok-see.d)
-    (checked-as g.P.Pairs.told c.see.new.pairs c.see-2.new.pairs IsSound IsObject (λ handle t. find_object t handle) (Ok c.in-Ok-see.d)
-    c.as_slice-2.result.now c.args.a.now.link.directory c.as_slice-2.ensures c.in-Ok-see.ensures.check))
+    (checked-as g.P.Pairs.told c.see.new.pairs c.see-2.new.pairs IsSound IsObject (λ handle t. find_object t handle)
+    (Ok c.in-Ok-see.d) c.as_slice-2.ensures c.in-Ok-see.ensures.check))
     (λ t sound known. tt) 0 (goes-then g.P.Pairs.told c.args.pairs.now c.see.new.pairs c.see-2.new.pairs 0 0 c.see.ensures.goes
     c.see-2.ensures.goes) c.in-Err-look_up.fault c.in-Err-look_up.ensures.fault
 
@@ -129,11 +129,11 @@ returns-clause-check g c =
     c.look_up.ensures.goes
     (gathers g.P.Pairs.told c.args.pairs.now c.see.new.pairs c.see-2.new.pairs (IsSeen c.args.a.now.file c.in-Ok.file) IsSound
     c.see-2.ensures.goes
-    (checked-as g.P.Pairs.told c.args.pairs.now c.see.new.pairs IsSound IsObject (λ handle t. find_object t handle) (Ok c.in-Ok.file)
-    c.as_slice.result.now c.args.a.now.file c.as_slice.ensures c.in-Ok.ensures.check)
+    (checked-as g.P.Pairs.told c.args.pairs.now c.see.new.pairs IsSound IsObject (λ handle t. find_object t handle)
+    (Ok c.in-Ok.file) c.as_slice.ensures c.in-Ok.ensures.check)
     (λ t sound known. sound) (IsSeen c.args.a.now.link.directory c.in-Ok-see.d)
-    (checked-as g.P.Pairs.told c.see.new.pairs c.see-2.new.pairs IsSound IsObject (λ handle t. find_object t handle) (Ok c.in-Ok-see.d)
-    c.as_slice-2.result.now c.args.a.now.link.directory c.as_slice-2.ensures c.in-Ok-see.ensures.check))
+    (checked-as g.P.Pairs.told c.see.new.pairs c.see-2.new.pairs IsSound IsObject (λ handle t. find_object t handle)
+    (Ok c.in-Ok-see.d) c.as_slice-2.ensures c.in-Ok-see.ensures.check))
     (λ t sound known. tt) (HasRow (fileid_at c.in-Ok-see.d.place) c.args.a.now.link.name c.in-Ok-look_up.found)
     (subst (λ (name : List ℕ). Reads g.P.Pairs.told c.see-2.new.pairs c.look_up.new.pairs (IsKept LiveView)
     (HasRow (fileid_at c.in-Ok-see.d.place) name c.in-Ok-look_up.found)) c.as_slice-name.ensures
@@ -160,7 +160,8 @@ returns-in-Ok-need_room-clause-check g c =
     × IsLinking c.args.a.now.link.name t (linking_of c.in-Ok.file c.in-Ok-see.d) plan) (λ t sound. sound)
     (λ t sound known. link_plans t c.args.cred.now c.args.a.now c.in-Ok.file known.0.0.0 known.0.0.1 known.0.0.2
     c.in-Ok-see.d known.0.1.0 known.0.1.1 known.0.1.2 asked c.in-Ok-see.ensures.live c.in-Ok-look_up.found known.1
-    c.in-Ok-need_linkable.ensures.plain c.in-Ok-need_linkable.ensures.directory c.in-Ok.ensures.live (ap (λ (name : List ℕ). need_room c.args.cred.now (seen c.in-Ok.file) (seen c.in-Ok-see.d)
+    c.in-Ok-need_linkable.ensures.plain c.in-Ok-need_linkable.ensures.directory c.in-Ok.ensures.live
+    (ap (λ (name : List ℕ). need_room c.args.cred.now (seen c.in-Ok.file) (seen c.in-Ok-see.d)
     (is_taken_by c.in-Ok-see.d.place name (is_some c.in-Ok-look_up.found))) (sym c.as_slice-name.ensures)
     ∙ ap (λ (b : Bool). need_room c.args.cred.now (seen c.in-Ok.file) (seen c.in-Ok-see.d)
     (is_taken_by c.in-Ok-see.d.place c.as_slice-name.result.now b)) (sym c.is_some.ensures)
@@ -171,11 +172,11 @@ returns-in-Ok-need_room-clause-check g c =
     c.look_up.ensures.goes
     (gathers g.P.Pairs.told c.args.pairs.now c.see.new.pairs c.see-2.new.pairs (IsSeen c.args.a.now.file c.in-Ok.file) IsSound
     c.see-2.ensures.goes
-    (checked-as g.P.Pairs.told c.args.pairs.now c.see.new.pairs IsSound IsObject (λ handle t. find_object t handle) (Ok c.in-Ok.file)
-    c.as_slice.result.now c.args.a.now.file c.as_slice.ensures c.in-Ok.ensures.check)
+    (checked-as g.P.Pairs.told c.args.pairs.now c.see.new.pairs IsSound IsObject (λ handle t. find_object t handle)
+    (Ok c.in-Ok.file) c.as_slice.ensures c.in-Ok.ensures.check)
     (λ t sound known. sound) (IsSeen c.args.a.now.link.directory c.in-Ok-see.d)
-    (checked-as g.P.Pairs.told c.see.new.pairs c.see-2.new.pairs IsSound IsObject (λ handle t. find_object t handle) (Ok c.in-Ok-see.d)
-    c.as_slice-2.result.now c.args.a.now.link.directory c.as_slice-2.ensures c.in-Ok-see.ensures.check))
+    (checked-as g.P.Pairs.told c.see.new.pairs c.see-2.new.pairs IsSound IsObject (λ handle t. find_object t handle)
+    (Ok c.in-Ok-see.d) c.as_slice-2.ensures c.in-Ok-see.ensures.check))
     (λ t sound known. tt) (HasRow (fileid_at c.in-Ok-see.d.place) c.args.a.now.link.name c.in-Ok-look_up.found)
     (subst (λ (name : List ℕ). Reads g.P.Pairs.told c.see-2.new.pairs c.look_up.new.pairs (IsKept LiveView)
     (HasRow (fileid_at c.in-Ok-see.d.place) name c.in-Ok-look_up.found)) c.as_slice-name.ensures

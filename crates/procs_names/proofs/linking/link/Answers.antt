@@ -59,6 +59,7 @@ returns-in-Err-add_link g c =
     (CanLink c.args.now x.plan.directory c.args.a.now.link.name x.plan.file)
     (λ t sound known. linking_can t sound c.args.cred.now c.args.a.now c.args.now x known.0 known.1 known.2)
     (omega arith)
-    (λ t sound known. ap (λ (r : Row). is_ok r) (link_done t sound c.args.cred.now c.args.a.now c.args.now x known.0 known.1 known.2
+    (λ t sound known. ap (λ (r : Row). is_ok r) (link_done t sound c.args.cred.now c.args.a.now c.args.now x known.0 known.1
+    known.2
     (wcc_of (Some x.directory) (Some (touched c.args.now x.directory))) (linked_more c.args.now x.file) refl refl))
     c.in-Err-add_link.fault (rw c.as_slice-name.ensures at c.in-Err-add_link.ensures.fault)

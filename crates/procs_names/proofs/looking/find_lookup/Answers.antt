@@ -10,7 +10,7 @@ use Rattle.procs_object.specs.Finding.{IsObject, IsOfLive}
 use Rattle.procs_object.proofs.Gathering.{gathers}
 use Rattle.procs_object.proofs.Reading.{reads-more}
 use Rattle.procs_names.specs.Naming.{IsOf, IsTold, leads_at, need_lookup, seen}
-use Rattle.procs_names.proofs.Knowing.{check-behind, check-halted, checked-as}
+use Rattle.procs_names.proofs.Knowing.{check-behind, check-halted, checked-as, checked-at}
 use Rattle.procs_names.proofs.Checked.{IsSeen, at_handle, found_fsid}
 use Rattle.procs_names.proofs.Looked.{IsNamed, lookup_halted, lookup_lacks, lookup_refused, lookup_tells}
 use Rattle.procs_names.proofs.looking.find_lookup.Goals as goal
@@ -27,7 +27,7 @@ returns-in-Err-clause-check g c =
     (λ t. lookup t c.args.cred.now c.args.a.now) c.args.pairs.now c.see.new.pairs IsSound
     (λ t status refused. lookup_halted t c.args.cred.now c.args.a.now status refused) c.in-Err.halt
     (checked-as g.P.Pairs.told c.args.pairs.now c.see.new.pairs IsSound IsObject (λ directory t. find_object t directory)
-    (Err c.in-Err.halt) c.as_slice.result.now c.args.a.now.directory c.as_slice.ensures c.in-Err.ensures.check)
+    (Err c.in-Err.halt) c.as_slice.ensures c.in-Err.ensures.check)
 
 pub returns-in-Err-need_lookup-clause-goes : goal.returns-in-Err-need_lookup-clause-goes
 returns-in-Err-need_lookup-clause-goes g c = c.see.ensures.goes
@@ -40,7 +40,7 @@ returns-in-Err-need_lookup-clause-check g c =
     c.in-Err-need_lookup.status (ap (λ (name : List ℕ). need_lookup c.args.cred.now (seen c.in-Ok.d) name)
     (sym c.as_slice-name.ensures) ∙ sym c.in-Err-need_lookup.ensures.check))
     (checked-as g.P.Pairs.told c.args.pairs.now c.see.new.pairs IsSound IsObject (λ directory t. find_object t directory)
-    (Ok c.in-Ok.d) c.as_slice.result.now c.args.a.now.directory c.as_slice.ensures c.in-Ok.ensures.check)
+    (Ok c.in-Ok.d) c.as_slice.ensures c.in-Ok.ensures.check)
 
 pub named-requires : goal.named-requires
 named-requires g c = c.in-Ok-need_lookup.ensures.short
@@ -59,18 +59,16 @@ returns-in-Err-named-clause-check g c =
     (λ t. lookup t c.args.cred.now c.args.a.now) c.args.pairs.now c.see.new.pairs c.named.new.pairs 0
     (IsSeen c.args.a.now.directory c.in-Ok.d) (IsOf c.in-Ok.d.attributes.fsid) c.see.ensures.goes c.named.ensures.goes
     (checked-as g.P.Pairs.told c.args.pairs.now c.see.new.pairs IsSound IsObject (λ directory t. find_object t directory)
-    (Ok c.in-Ok.d) c.as_slice.result.now c.args.a.now.directory c.as_slice.ensures c.in-Ok.ensures.check)
+    (Ok c.in-Ok.d) c.as_slice.ensures c.in-Ok.ensures.check)
     (λ t sound known. found_fsid t c.in-Ok.d known.0 known.2 c.in-Ok.ensures.live)
     (λ t status known refused. lookup_lacks t c.args.cred.now c.args.a.now c.in-Ok.d known.0 known.1 known.2 asked
     c.in-Ok.ensures.live
     (at_handle t c.args.a.now.directory known.0 (λ p. is_snapshots_name p c.args.a.now.name ≡ false) c.requires.live
     c.requires.outside known.1) status refused) c.in-Err-named.halt
-    (checked-as g.P.Pairs.told c.see.new.pairs c.named.new.pairs (IsOf c.in-Ok.d.attributes.fsid) IsObject
-    (λ name t. leads_at t (fileid_at c.in-Ok.d.place) c.in-Ok.d.inode.head.kept.parent name) (Err c.in-Err-named.halt) c.as_slice-name.result.now
-    c.args.a.now.name c.as_slice-name.ensures
-    (checked-as g.P.Pairs.told c.see.new.pairs c.named.new.pairs (IsOf c.in-Ok.d.attributes.fsid) IsObject
-    (λ id t. leads_at t id c.in-Ok.d.inode.head.kept.parent c.as_slice-name.result.now) (Err c.in-Err-named.halt) c.fileid.result
-    (fileid_at c.in-Ok.d.place) c.fileid.ensures c.in-Err-named.ensures.check))
+    (checked-at g.P.Pairs.told c.see.new.pairs c.named.new.pairs (IsOf c.in-Ok.d.attributes.fsid) IsObject
+    (λ id name t. leads_at t id c.in-Ok.d.inode.head.kept.parent name) (Err c.in-Err-named.halt) c.fileid.ensures
+    c.as_slice-name.ensures
+    c.in-Err-named.ensures.check)
 
 pub returns-in-Ok-tell-clause-goes : goal.returns-in-Ok-tell-clause-goes
 returns-in-Ok-tell-clause-goes g c =
@@ -95,15 +93,13 @@ returns-in-Ok-tell-clause-check g c =
     (gathers g.P.Pairs.told c.args.pairs.now c.see.new.pairs c.named.new.pairs (IsSeen c.args.a.now.directory c.in-Ok.d)
     (IsOf c.in-Ok.d.attributes.fsid) c.named.ensures.goes
     (checked-as g.P.Pairs.told c.args.pairs.now c.see.new.pairs IsSound IsObject (λ directory t. find_object t directory)
-    (Ok c.in-Ok.d) c.as_slice.result.now c.args.a.now.directory c.as_slice.ensures c.in-Ok.ensures.check)
+    (Ok c.in-Ok.d) c.as_slice.ensures c.in-Ok.ensures.check)
     (λ t sound known. found_fsid t c.in-Ok.d known.0 known.2 c.in-Ok.ensures.live)
     (IsNamed c.in-Ok.d c.args.a.now.name c.in-Ok-named.o)
-    (checked-as g.P.Pairs.told c.see.new.pairs c.named.new.pairs (IsOf c.in-Ok.d.attributes.fsid) IsObject
-    (λ name t. leads_at t (fileid_at c.in-Ok.d.place) c.in-Ok.d.inode.head.kept.parent name) (Ok c.in-Ok-named.o) c.as_slice-name.result.now
-    c.args.a.now.name c.as_slice-name.ensures
-    (checked-as g.P.Pairs.told c.see.new.pairs c.named.new.pairs (IsOf c.in-Ok.d.attributes.fsid) IsObject
-    (λ id t. leads_at t id c.in-Ok.d.inode.head.kept.parent c.as_slice-name.result.now) (Ok c.in-Ok-named.o) c.fileid.result
-    (fileid_at c.in-Ok.d.place) c.fileid.ensures c.in-Ok-named.ensures.check)))
+    (checked-at g.P.Pairs.told c.see.new.pairs c.named.new.pairs (IsOf c.in-Ok.d.attributes.fsid) IsObject
+    (λ id name t. leads_at t id c.in-Ok.d.inode.head.kept.parent name) (Ok c.in-Ok-named.o) c.fileid.ensures
+    c.as_slice-name.ensures
+    c.in-Ok-named.ensures.check))
 
 pub returns-clause-goes : goal.returns-clause-goes
 returns-clause-goes g c =

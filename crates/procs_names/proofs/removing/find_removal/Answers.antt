@@ -15,8 +15,9 @@ use Rattle.procs_object.proofs.Gathering.{gathers}
 use Rattle.procs_object.proofs.Reading.{reads-more}
 use Rattle.procs_names.specs.declared.removing.Removal.{Removal}
 use Rattle.procs_names.specs.Naming.{IsOf, IsRemoval, child_at, need_removable, removal_of, seen}
-use Rattle.procs_names.proofs.Knowing.{check-behind, check-halted, checked-as}
-use Rattle.procs_names.proofs.Checked.{IsChild, IsPlaceOf, found_fsid, place_in, remove_ends, remove_halted, remove_lacks, remove_plans, remove_refused}
+use Rattle.procs_names.proofs.Knowing.{check-behind, check-halted, checked-at}
+use Rattle.procs_names.proofs.Checked.{IsChild, IsPlaceOf, found_fsid, place_in, remove_ends, remove_halted, remove_lacks}
+use Rattle.procs_names.proofs.Checked.{remove_plans, remove_refused}
 use Rattle.procs_names.proofs.removing.find_removal.Goals as goal
 
 pub find_directory-requires : goal.find_directory-requires
@@ -30,12 +31,9 @@ returns-in-Err-clause-check g c =
     check-halted g.P.Pairs.told IsObject (IsRemoval c.args.a.now.name) (λ t. find_directory t (place_in c.args.a.now))
     (λ t. remove_plan t c.args.cred.now c.args.a.now) c.args.pairs.now c.find_directory.new.pairs IsSound
     (λ t status refused. remove_halted t c.args.cred.now c.args.a.now status refused) c.in-Err.halt
-    (checked-as g.P.Pairs.told c.args.pairs.now c.find_directory.new.pairs IsSound IsObject
-    (λ name t. find_directory t (record { directory = c.args.a.now.directory; name = name })) (Err c.in-Err.halt)
-    c.as_slice-name.result.now c.args.a.now.name c.as_slice-name.ensures
-    (checked-as g.P.Pairs.told c.args.pairs.now c.find_directory.new.pairs IsSound IsObject
-    (λ directory t. find_directory t (record { directory = directory; name = c.as_slice-name.result.now })) (Err c.in-Err.halt)
-    c.as_slice.result.now c.args.a.now.directory c.as_slice.ensures c.in-Err.ensures.check))
+    (checked-at g.P.Pairs.told c.args.pairs.now c.find_directory.new.pairs IsSound IsObject
+    (λ directory name t. find_directory t (record { directory = directory; name = name })) (Err c.in-Err.halt) c.as_slice.ensures
+    c.as_slice-name.ensures c.in-Err.ensures.check)
 
 pub returns-in-Err-need_removable-clause-goes : goal.returns-in-Err-need_removable-clause-goes
 returns-in-Err-need_removable-clause-goes g c = c.find_directory.ensures.goes
@@ -47,12 +45,9 @@ returns-in-Err-need_removable-clause-check g c =
     (λ t sound known. remove_refused t c.args.cred.now c.args.a.now c.in-Ok.d known.0 known.1 known.2
     c.in-Err-need_removable.status (ap (λ (name : List ℕ). need_removable c.args.cred.now (seen c.in-Ok.d) name)
     (sym c.as_slice-name.ensures) ∙ sym c.in-Err-need_removable.ensures))
-    (checked-as g.P.Pairs.told c.args.pairs.now c.find_directory.new.pairs IsSound IsObject
-    (λ name t. find_directory t (record { directory = c.args.a.now.directory; name = name })) (Ok c.in-Ok.d)
-    c.as_slice-name.result.now c.args.a.now.name c.as_slice-name.ensures
-    (checked-as g.P.Pairs.told c.args.pairs.now c.find_directory.new.pairs IsSound IsObject
-    (λ directory t. find_directory t (record { directory = directory; name = c.as_slice-name.result.now })) (Ok c.in-Ok.d)
-    c.as_slice.result.now c.args.a.now.directory c.as_slice.ensures c.in-Ok.ensures.check))
+    (checked-at g.P.Pairs.told c.args.pairs.now c.find_directory.new.pairs IsSound IsObject
+    (λ directory name t. find_directory t (record { directory = directory; name = name })) (Ok c.in-Ok.d) c.as_slice.ensures
+    c.as_slice-name.ensures c.in-Ok.ensures.check)
 
 pub child-requires : goal.child-requires
 child-requires g c = c.in-Ok.ensures.place.short
@@ -71,21 +66,15 @@ returns-in-Err-child-clause-check g c =
     (λ t. child_at t (Live (fileid_at c.in-Ok.d.place)) c.args.a.now.name)
     (λ t. remove_plan t c.args.cred.now c.args.a.now) c.args.pairs.now c.find_directory.new.pairs c.child.new.pairs 0
     (IsPlaceOf c.args.a.now c.in-Ok.d) (IsOf c.in-Ok.d.attributes.fsid) c.find_directory.ensures.goes c.child.ensures.goes
-    (checked-as g.P.Pairs.told c.args.pairs.now c.find_directory.new.pairs IsSound IsObject
-    (λ name t. find_directory t (record { directory = c.args.a.now.directory; name = name })) (Ok c.in-Ok.d)
-    c.as_slice-name.result.now c.args.a.now.name c.as_slice-name.ensures
-    (checked-as g.P.Pairs.told c.args.pairs.now c.find_directory.new.pairs IsSound IsObject
-    (λ directory t. find_directory t (record { directory = directory; name = c.as_slice-name.result.now })) (Ok c.in-Ok.d)
-    c.as_slice.result.now c.args.a.now.directory c.as_slice.ensures c.in-Ok.ensures.check))
+    (checked-at g.P.Pairs.told c.args.pairs.now c.find_directory.new.pairs IsSound IsObject
+    (λ directory name t. find_directory t (record { directory = directory; name = name })) (Ok c.in-Ok.d) c.as_slice.ensures
+    c.as_slice-name.ensures c.in-Ok.ensures.check)
     (λ t sound known. found_fsid t c.in-Ok.d known.0 known.2 c.in-Ok.ensures.place.live)
     (λ t status known refused. remove_lacks t c.args.cred.now c.args.a.now c.in-Ok.d known.0 known.1 known.2 asked
     c.in-Ok.ensures.place.live status refused) c.in-Err-child.halt
-    (checked-as g.P.Pairs.told c.find_directory.new.pairs c.child.new.pairs (IsOf c.in-Ok.d.attributes.fsid) IsObject
-    (λ name t. child_at t (Live (fileid_at c.in-Ok.d.place)) name) (Err c.in-Err-child.halt) c.as_slice-name.result.now c.args.a.now.name
-    c.as_slice-name.ensures
-    (checked-as g.P.Pairs.told c.find_directory.new.pairs c.child.new.pairs (IsOf c.in-Ok.d.attributes.fsid) IsObject
-    (λ id t. child_at t (Live id) c.as_slice-name.result.now) (Err c.in-Err-child.halt) c.fileid.result (fileid_at c.in-Ok.d.place)
-    c.fileid.ensures c.in-Err-child.ensures.check))
+    (checked-at g.P.Pairs.told c.find_directory.new.pairs c.child.new.pairs (IsOf c.in-Ok.d.attributes.fsid) IsObject
+    (λ id name t. child_at t (Live id) name) (Err c.in-Err-child.halt) c.fileid.ensures c.as_slice-name.ensures
+    c.in-Err-child.ensures.check)
 
 pub returns-then-is_directory-clause-goes : goal.returns-then-is_directory-clause-goes
 returns-then-is_directory-clause-goes g c =
@@ -105,20 +94,14 @@ returns-then-is_directory-clause-check g c =
     (sym c.is_directory.ensures ∙ c.if-is_directory.true))
     (gathers g.P.Pairs.told c.args.pairs.now c.find_directory.new.pairs c.child.new.pairs (IsPlaceOf c.args.a.now c.in-Ok.d)
     (IsOf c.in-Ok.d.attributes.fsid) c.child.ensures.goes
-    (checked-as g.P.Pairs.told c.args.pairs.now c.find_directory.new.pairs IsSound IsObject
-    (λ name t. find_directory t (record { directory = c.args.a.now.directory; name = name })) (Ok c.in-Ok.d)
-    c.as_slice-name.result.now c.args.a.now.name c.as_slice-name.ensures
-    (checked-as g.P.Pairs.told c.args.pairs.now c.find_directory.new.pairs IsSound IsObject
-    (λ directory t. find_directory t (record { directory = directory; name = c.as_slice-name.result.now })) (Ok c.in-Ok.d)
-    c.as_slice.result.now c.args.a.now.directory c.as_slice.ensures c.in-Ok.ensures.check))
+    (checked-at g.P.Pairs.told c.args.pairs.now c.find_directory.new.pairs IsSound IsObject
+    (λ directory name t. find_directory t (record { directory = directory; name = name })) (Ok c.in-Ok.d) c.as_slice.ensures
+    c.as_slice-name.ensures c.in-Ok.ensures.check)
     (λ t sound known. found_fsid t c.in-Ok.d known.0 known.2 c.in-Ok.ensures.place.live)
     (IsChild (fileid_at c.in-Ok.d.place) c.args.a.now.name c.in-Ok-child.o)
-    (checked-as g.P.Pairs.told c.find_directory.new.pairs c.child.new.pairs (IsOf c.in-Ok.d.attributes.fsid) IsObject
-    (λ name t. child_at t (Live (fileid_at c.in-Ok.d.place)) name) (Ok c.in-Ok-child.o) c.as_slice-name.result.now c.args.a.now.name
-    c.as_slice-name.ensures
-    (checked-as g.P.Pairs.told c.find_directory.new.pairs c.child.new.pairs (IsOf c.in-Ok.d.attributes.fsid) IsObject
-    (λ id t. child_at t (Live id) c.as_slice-name.result.now) (Ok c.in-Ok-child.o) c.fileid.result (fileid_at c.in-Ok.d.place)
-    c.fileid.ensures c.in-Ok-child.ensures.check)))
+    (checked-at g.P.Pairs.told c.find_directory.new.pairs c.child.new.pairs (IsOf c.in-Ok.d.attributes.fsid) IsObject
+    (λ id name t. child_at t (Live id) name) (Ok c.in-Ok-child.o) c.fileid.ensures c.as_slice-name.ensures
+    c.in-Ok-child.ensures.check))
 
 pub returns-clause-goes : goal.returns-clause-goes
 returns-clause-goes g c =
@@ -141,20 +124,15 @@ returns-clause-check g c =
     c.in-Ok-child.ensures.live (sym c.is_directory.ensures ∙ c.if-is_directory.false))
     (gathers g.P.Pairs.told c.args.pairs.now c.find_directory.new.pairs c.child.new.pairs (IsPlaceOf c.args.a.now c.in-Ok.d)
     (IsOf c.in-Ok.d.attributes.fsid) c.child.ensures.goes
-    (checked-as g.P.Pairs.told c.args.pairs.now c.find_directory.new.pairs IsSound IsObject
-    (λ name t. find_directory t (record { directory = c.args.a.now.directory; name = name })) (Ok c.in-Ok.d)
-    c.as_slice-name.result.now c.args.a.now.name c.as_slice-name.ensures
-    (checked-as g.P.Pairs.told c.args.pairs.now c.find_directory.new.pairs IsSound IsObject
-    (λ directory t. find_directory t (record { directory = directory; name = c.as_slice-name.result.now })) (Ok c.in-Ok.d)
-    c.as_slice.result.now c.args.a.now.directory c.as_slice.ensures c.in-Ok.ensures.check))
+    (checked-at g.P.Pairs.told c.args.pairs.now c.find_directory.new.pairs IsSound IsObject
+    (λ directory name t. find_directory t (record { directory = directory; name = name })) (Ok c.in-Ok.d) c.as_slice.ensures
+    c.as_slice-name.ensures c.in-Ok.ensures.check)
     (λ t sound known. found_fsid t c.in-Ok.d known.0 known.2 c.in-Ok.ensures.place.live)
     (IsChild (fileid_at c.in-Ok.d.place) c.args.a.now.name c.in-Ok-child.o)
-    (checked-as g.P.Pairs.told c.find_directory.new.pairs c.child.new.pairs (IsOf c.in-Ok.d.attributes.fsid) IsObject
-    (λ name t. child_at t (Live (fileid_at c.in-Ok.d.place)) name) (Ok c.in-Ok-child.o) c.as_slice-name.result.now c.args.a.now.name
-    c.as_slice-name.ensures
-    (checked-as g.P.Pairs.told c.find_directory.new.pairs c.child.new.pairs (IsOf c.in-Ok.d.attributes.fsid) IsObject
-    (λ id t. child_at t (Live id) c.as_slice-name.result.now) (Ok c.in-Ok-child.o) c.fileid.result (fileid_at c.in-Ok.d.place)
-    c.fileid.ensures c.in-Ok-child.ensures.check))))
+    (checked-at g.P.Pairs.told c.find_directory.new.pairs c.child.new.pairs (IsOf c.in-Ok.d.attributes.fsid) IsObject
+    (λ id name t. child_at t (Live id) name) (Ok c.in-Ok-child.o) c.fileid.ensures c.as_slice-name.ensures
+    c.in-Ok-child.ensures.check)))
 
 pub returns-clause-short : goal.returns-clause-short
-returns-clause-short g c = subst (λ (name : List ℕ). length name ≤ longest_name) c.as_slice-name.ensures c.in-Ok.ensures.place.short
+returns-clause-short g c =
+    subst (λ (name : List ℕ). length name ≤ longest_name) c.as_slice-name.ensures c.in-Ok.ensures.place.short
