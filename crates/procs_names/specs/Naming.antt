@@ -1,5 +1,5 @@
 -- What is asked of a directory and of a name before the name is looked up, where the name leads, and what is found.
-use Rattle.std.specs.Prelude.{◌≡◌, ◌||◌, nat_le, Bool, true, false, ℕ, List, Option, Some, None, IfSome, IsSome, []}
+use Rattle.std.specs.Prelude.{◌≡◌, ◌||◌, nat_le, Bool, true, false, ℕ, List, [], Option, Some, None, IfSome, IsSome}
 use Rattle.std.specs.Prelude.{if◌then◌else◌}
 use Rattle.nfs3_types.specs.declared.args.DirOp.{DirOp}
 use Rattle.nfs3_types.specs.declared.attributes.Fattr.{Fattr}
@@ -14,8 +14,7 @@ use Rattle.fs_rules.specs.declared.plans.LinkPlan.{LinkPlan}
 use Rattle.fs_rules.specs.declared.plans.RemovePlan.{RemovePlan}
 use Rattle.fs_rules.specs.Attributes.{is_directory}
 use Rattle.fs_rules.specs.Checks.{Check, ◌>>=◌, find_object, is_live, need, need_directory, need_good_name, need_live}
-use Rattle.fs_rules.specs.Checks.{need_search}
-use Rattle.fs_rules.specs.Checks.{refuse_if, some_or}
+use Rattle.fs_rules.specs.Checks.{need_search, refuse_if, some_or}
 use Rattle.fs_rules.specs.Limits.{most_links}
 use Rattle.fs_rules.specs.Making.{lacks_cookies}
 use Rattle.fs_rules.specs.Names.{is_dot, is_dot_dot, is_dots, named}
@@ -41,6 +40,7 @@ IsOf fsid t = t.fsid ≡ fsid
 abbrev pub IsOutside : DirOp (List ℕ) → Type 0
 IsOutside a = IfSome (handle_in a.directory) (λ h. is_snapshots_name (Live h.fileid) a.name ≡ false)
 
+-- what is asked before the name is looked up
 unfoldable pub need_lookup : Cred → Object → List ℕ → Check (Unit {0})
 need_lookup cred directory name = do
   _ ← need_directory directory
@@ -79,11 +79,13 @@ IsTold t x body = body ≡ x
 
 -- ---- REMOVE and RMDIR
 
+-- the name may be taken out of the directory
 unfoldable pub need_alterable : Cred → Object → List ℕ → Check (Unit {0})
 need_alterable cred directory name = do
   _ ← refuse_if (is_snapshots_name directory.place name) Acces
   need (may_alter cred directory.inode) Acces
 
+-- what REMOVE asks, and what RMDIR does
 unfoldable pub need_removable : Cred → Object → List ℕ → Check (Unit {0})
 need_removable cred directory name = do
   _ ← refuse_if (is_dots name) Inval
@@ -121,6 +123,7 @@ pub record IsRemoval (name : List ℕ) (t : Tree) (x : Removal) (plan : RemovePl
 
 -- ---- LINK
 
+-- what is asked before the name is looked up
 unfoldable pub need_linkable : Cred → Object → Object → List ℕ → Check (Unit {0})
 need_linkable cred file directory name = do
   _ ← need_directory directory
@@ -130,7 +133,7 @@ need_linkable cred file directory name = do
   _ ← refuse_if (is_directory file.inode.kind) Inval
   need_search cred directory
 
--- where it is known whether the name is taken
+-- what is asked behind that, where it is known whether the name is taken
 unfoldable pub need_room : Cred → Object → Object → Bool → Check (Unit {0})
 need_room cred file directory taken = do
   _ ← refuse_if taken Exist

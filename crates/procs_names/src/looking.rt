@@ -43,7 +43,6 @@ fn need_lookup(cred: &Cred, d: &Found, name: &[u8]) -> Result<(), Status>
 }
 
 /// What LOOKUP tells of a directory and of what it found there.
-#[tactic(auto, unfolding(crate::specs::Naming::found_body))]
 fn tell(alloc: Global, fsid: u64, d: &Found, o: &Found) -> Result<Body, NoMemory>
     ensures { IfOk result (λ body. body ≡ found_body fsid o.now.place o.now.attributes d.now.attributes) }
 {
