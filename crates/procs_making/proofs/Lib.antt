@@ -1,0 +1,12 @@
+pub mod Paths
+pub mod Gathered
+pub mod Sounds
+pub mod Made
+pub mod Placed
+pub mod RoomFound
+pub mod Grouped
+pub mod MakingRows
+pub mod LinkRows
+pub mod DirectoryRows
+pub mod Taken
+pub mod FileRows

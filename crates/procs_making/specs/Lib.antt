@@ -1,0 +1,4 @@
+pub mod Rooms
+pub mod Children
+pub mod Plans
+pub mod Taking
