@@ -34,13 +34,6 @@ module _ {S W : Type 0} (told : PairsTold S W) (old new : S) (Given Less : Tree 
   edit-up-given HeightFull up = up
   edit-up-given (Page fault) up = up
 
-  module _ {A : Type 0} (r : Result A PairFault) where
-    pub one-edit : (edit : Tree → Tree) → OnOk r (Edits told old new Less edit) → OnOk r (Edits told old new Given edit)
-    one-edit edit ok = on_ok_weaker r (edits-given edit) ok
-
-    pub one-up : IfErr r (EditGivesUp told old new Less) → IfErr r (EditGivesUp told old new Given)
-    one-up up = IfErr-weaker r (EditGivesUp told old new Less) (EditGivesUp told old new Given) edit-up-given up
-
 -- an edit that is another one, where this much is given
 pub edit-same : {S W A : Type 0} (told : PairsTold S W) (old new : S) (Given : Tree → Type 0) (edit change : Tree → Tree)
     (r : Result A PairFault) → ((t : Tree) → edit t ≡ change t) → OnOk r (Edits told old new Given edit)

@@ -3,3 +3,7 @@ pub mod Beside
 pub mod Names
 pub mod Way
 pub mod Moves
+pub mod Gathered
+pub mod Sights
+pub mod Plans
+pub mod Rows

@@ -13,7 +13,7 @@ use Rattle.fs_rules.specs.Limits.{most_links}
 use Rattle.fs_rules.specs.Names.{named}
 use Rattle.fs_rules.specs.Places.{names_of}
 use Rattle.fs_rules.specs.Removing.{lose_link, lose_name, remove_file, drop_directory}
-use Rattle.fs_rules.specs.Renaming.{replace, relink, renew}
+use Rattle.fs_rules.specs.Renaming.{replace, relink, renew, move_node}
 use Rattle.fs_rules.specs.Tree.{Tree, Node, Nodes}
 use Rattle.fs_shows.specs.Views.{IsThere}
 use Rattle.fs_shows.proofs.NodeEdits.{each-node}
@@ -311,9 +311,6 @@ module _ (p : RenamePlan) (t : Tree) where
   pub relinked : p.reparents ≡ true → edit_node p.to add_link (edit_node p.from drop_link t) ≡ relink p t
   relinked is = ap (λ (u : Bool). if u then edit_node p.to add_link (edit_node p.from drop_link t) else t) (sym is)
 
-  pub relinked-not : p.reparents ≡ false → t ≡ relink p t
-  relinked-not is = ap (λ (u : Bool). if u then edit_node p.to add_link (edit_node p.from drop_link t) else t) (sym is)
-
   pub linkable : CanRelink p t → p.reparents ≡ true → HasLinkLeft p.to (edit_node p.from drop_link t)
   linkable can asked =
       node-still t p.to p.from drop_link (λ n. n.inode.nlink ≤ most_links) (λ n few. omega (arith, few)) (can.to asked)
@@ -328,3 +325,58 @@ module _ (now : Moment) (to : ℕ) (name : List ℕ) (r : Replaced) (t : Tree) w
       → (if u then drop_directory now to name r.fileid t else remove_file now to name r.fileid t) ≡ replace now to name (Some r) t
   replaced-by u is =
       ap (λ (u : Bool). if u then drop_directory now to name r.fileid t else remove_file now to name r.fileid t) (sym is)
+
+-- ---- behind a move
+
+edited-fsid : (id : ℕ) (g : Node → Node) (t : Tree) → (edit_node id g t).fsid ≡ t.fsid
+unfolding edit_node
+edited-fsid id g t = refl
+
+gone-fsid : (now : Moment) (to : ℕ) (name : List ℕ) (id : ℕ) (t : Tree) → (drop_directory now to name id t).fsid ≡ t.fsid
+unfolding drop_directory edit_node drop_node
+gone-fsid now to name id t = refl
+
+lost-fsid : (now : Moment) (to : ℕ) (name : List ℕ) (id : ℕ) (t : Tree) → (remove_file now to name id t).fsid ≡ t.fsid
+unfolding remove_file edit_node lose_name
+lost-fsid now to name id t = refl
+
+replaced-fsid : (now : Moment) (to : ℕ) (name : List ℕ) (o : Option Replaced) (t : Tree) → (replace now to name o t).fsid ≡ t.fsid
+replaced-fsid now to name None t = refl
+replaced-fsid now to name (Some r) t = by_kind r.is_directory
+  where
+    by_kind : (u : Bool)
+        → (if u then drop_directory now to name r.fileid t else remove_file now to name r.fileid t).fsid ≡ t.fsid
+    by_kind true = gone-fsid now to name r.fileid t
+    by_kind false = lost-fsid now to name r.fileid t
+
+relinked-fsid : (p : RenamePlan) (t : Tree) → (relink p t).fsid ≡ t.fsid
+relinked-fsid p t = by_asked p.reparents
+  where
+    by_asked : (u : Bool) → (if u then edit_node p.to add_link (edit_node p.from drop_link t) else t).fsid ≡ t.fsid
+    by_asked true = edited-fsid p.to add_link (edit_node p.from drop_link t) ∙ edited-fsid p.from drop_link t
+    by_asked false = refl
+
+module _ (now : Moment) (a : RenameArgs (List ℕ)) (p : RenamePlan) (t : Tree) (can : CanMove a p t) where
+  -- the file system is the same
+  pub moved-fsid : (move_node now a p t).fsid ≡ t.fsid
+  unfolding move_node edit_node
+  moved-fsid =
+      relinked-fsid p (replace now p.to a.to.name p.replaced t) ∙ replaced-fsid now p.to a.to.name p.replaced t
+
+  moved-there : (id : ℕ) → IsThere id (cleared now a.to.name p t) → IsThere id (move_node now a p t)
+  unfolding move_node
+  moved-there id is =
+      node-still (renamed now a p (cleared now a.to.name p t)) id p.fileid (renew p now) (λ n. ⊤) (λ n is. tt)
+      (still-there now a p (cleared now a.to.name p t) id is)
+
+  -- both directories are there
+  pub from-there : IsThere p.from (move_node now a p t)
+  from-there =
+      let after = cleared now a.to.name p t in
+      moved-there p.from
+      (some-weaker (after.nodes p.from) (Has a.from.name p.fileid) (λ n. ⊤) (λ n has. tt) (linked now a p t can).from)
+
+  pub to-there : IsThere p.to (move_node now a p t)
+  to-there =
+      let after = cleared now a.to.name p t in
+      moved-there p.to (some-weaker (after.nodes p.to) (IsFree a.to.name) (λ n. ⊤) (λ n free. tt) (linked now a p t can).to)
