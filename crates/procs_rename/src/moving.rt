@@ -1,7 +1,7 @@
 //! A node moves: the edits of RENAME, in the order of the table.
 
 ghost use Rattle.std.specs.Prelude.{◌≤◌, length, OnOk, IfErr};
-ghost use Rattle.fs_rules.specs.Edits.{edit_node, touch, add_name, drop_name as without_name};
+ghost use Rattle.fs_rules.specs.Edits.{edit_node};
 ghost use Rattle.fs_rules.specs.Limits.{longest_name};
 ghost use Rattle.fs_rules.specs.Removing.{remove_file as file_removed, drop_directory as directory_removed};
 ghost use Rattle.fs_rules.specs.Renaming as table;

@@ -3,7 +3,6 @@
 ghost use Rattle.std.specs.Prelude.{◌≡◌, true, OnOk, IfOk, IfErr, IfSome};
 ghost use Rattle.fs_rules.specs.Attributes.{given};
 ghost use Rattle.fs_rules.specs.Checks as checks;
-ghost use Rattle.fs_rules.specs.Limits.{longest_name};
 ghost use Rattle.fs_rules.specs.Making as making;
 ghost use Rattle.fs_rules.specs.Renaming as table;
 ghost use Rattle.fs_rules.specs.Sound.{IsSound};
@@ -21,7 +20,6 @@ use fs_shows::Halt;
 use nfs3_types::{Cred, Fattr, RenameArgs, Status, Text};
 use pair_types::PairFault;
 use pairs::Pairs;
-use procs_object::Found;
 use std::alloc::Global;
 
 /// What RENAME is going to do, and what both directories were.

@@ -7,7 +7,7 @@ ghost use Rattle.fs_rules.specs.Checks.{Check};
 ghost use Rattle.fs_rules.specs.Limits.{longest_name};
 ghost use Rattle.fs_rules.specs.Names as names;
 ghost use Rattle.fs_rules.specs.Places as places;
-ghost use Rattle.fs_rules.specs.Places.{entry_at, fileid_at};
+ghost use Rattle.fs_rules.specs.Places.{entry_at};
 ghost use Rattle.fs_rules.specs.Removing as removing;
 ghost use Rattle.fs_rules.specs.Renaming.{Renaming, rename_plan, target_at};
 ghost use Rattle.fs_rules.specs.Tree.{Tree};
