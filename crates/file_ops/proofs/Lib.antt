@@ -1,0 +1,4 @@
+pub mod Remade
+pub mod Ranged
+pub mod Wrote
+pub mod Resized
