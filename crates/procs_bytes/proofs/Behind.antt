@@ -31,7 +31,8 @@ module _ {S W : Type 0} (told : PairsTold S W) (old mid new : S) (row : First) (
   where
     first-sound : Reads told old mid IsSound (λ t. first_of t ≡ row)
     first-sound =
-        reads-more told old mid IsSound (λ t. ⊤) (λ t. first_of t ≡ row) (λ t. first_of t ≡ row) (λ t sound. tt) (λ t sound is. is)
+        reads-more told old mid IsSound (λ t. ⊤) (λ t. first_of t ≡ row) (λ t. first_of t ≡ row) (λ t sound. tt)
+        (λ t sound is. is)
         first
 
     begins-so : (t : Tree) → IsSound t → first_of t ≡ row → Begins row t
@@ -47,7 +48,8 @@ module _ {S W : Type 0} (told : PairsTold S W) (old mid new : S) (row : First) (
         → CheckedOn told mid new (Begins row) IsObject check (Err halt) → Performs told old new most answer (Err halt)
     seen-halts most answer all says (Refused status) then =
         refuses-by told old new answer (λ t. (first_of t ≡ row) × (check t ≡ Err status))
-        (gathers told old mid new (λ t. first_of t ≡ row) (Begins row) goes first-sound begins-so (λ t. check t ≡ Err status) then)
+        (gathers told old mid new (λ t. first_of t ≡ row) (Begins row) goes first-sound begins-so
+        (λ t. check t ≡ Err status) then)
         most status all (λ t sound is. says t status is.1)
     seen-halts most answer all says (Fault fault) up =
         halts-by told old new most answer all fault

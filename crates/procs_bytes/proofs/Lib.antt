@@ -1,3 +1,5 @@
 pub mod Behind
 pub mod Transferred
 pub mod WrittenBack
+pub mod SizeSet
+pub mod HeldUp

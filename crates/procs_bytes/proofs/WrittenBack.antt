@@ -101,33 +101,33 @@ wrote-attributes fsid id offset bytes now n file = by_test (length bytes == 0)
 
 -- ---- what is edited
 
-live-place : (p : Place) → is_live p ≡ true → p ≡ Live (fileid_at p)
+pub live-place : (p : Place) → is_live p ≡ true → p ≡ Live (fileid_at p)
 live-place (Live id) live = refl
 live-place SnapshotDirectory live = absurd (cc)
 live-place (KeptPlace number id) live = absurd (cc)
 
-edited-node : (t : Tree) (id : ℕ) (edit : Node → Node) (n : Node) → t.nodes id ≡ Some n
+pub edited-node : (t : Tree) (id : ℕ) (edit : Node → Node) (n : Node) → t.nodes id ≡ Some n
     → node_at (edit_node id edit t) (Live id) ≡ Some (edit n)
 unfolding node_at edit_node with_node
 edited-node t id edit n is =
     ap (λ (b : Bool). if b then option_map edit (t.nodes id) else t.nodes id) (eq-eqb id id refl)
     ∙ ap (λ (o : Option Node). option_map edit o) is
 
-live-node : (t : Tree) (id : ℕ) (n : Node) → node_at t (Live id) ≡ Some n → t.nodes id ≡ Some n
+pub live-node : (t : Tree) (id : ℕ) (n : Node) → node_at t (Live id) ≡ Some n → t.nodes id ≡ Some n
 unfolding node_at
 live-node t id n is = is
 
-attributes-live : (t : Tree) (id : ℕ) (n : Node)
+pub attributes-live : (t : Tree) (id : ℕ) (n : Node)
     → attributes t (object_by (Live id) n) ≡ attributes_of t.fsid id n.inode (length n.content)
 unfolding attributes
 attributes-live t id n = refl
 
-attributes-edited : (t : Tree) (id : ℕ) (edit : Node → Node) (n : Node)
+pub attributes-edited : (t : Tree) (id : ℕ) (edit : Node → Node) (n : Node)
     → attributes (edit_node id edit t) (object_by (Live id) n) ≡ attributes_of t.fsid id n.inode (length n.content)
 unfolding attributes edit_node
 attributes-edited t id edit n = refl
 
-some-of : (P : Node → Type 0) (o : Option Node) (n : Node) → o ≡ Some n → IfSome o P → P n
+pub some-of : (P : Node → Type 0) (o : Option Node) (n : Node) → o ≡ Some n → IfSome o P → P n
 some-of P o n is h = subst (λ (o : Option Node). IfSome o P) is h
 
 -- ---- the row
@@ -165,13 +165,13 @@ module _ (t : Tree) (cred : Cred) (a : WriteArgs (List ℕ)) (now : Moment) wher
 
 module _ (t : Tree) (x : Found) (o : Object) (is : IsObject t x o) (id : ℕ) (file : is_file x.inode.head.kept.kind ≡ true)
     (live : is_live x.place ≡ true) (id-is : id ≡ fileid_at x.place) where
-  place-is : x.place ≡ Live id
+  pub place-is : x.place ≡ Live id
   place-is = live-place x.place live ∙ ap (λ (id : ℕ). Live id) (sym id-is)
 
-  node-is : t.nodes id ≡ Some is.node
+  pub node-is : t.nodes id ≡ Some is.node
   node-is = live-node t id is.node (subst (λ (at : Place). node_at t at ≡ Some is.node) place-is is.there)
 
-  node-file : IsFile is.node
+  pub node-file : IsFile is.node
   node-file = ap (λ (k : Kept). is_file k.kind) (sym is.inode.kept) ∙ file
 
   -- the file may be written
@@ -181,13 +181,13 @@ module _ (t : Tree) (x : Found) (o : Object) (is : IsObject t x o) (id : ℕ) (f
     file = subst (λ (o : Option Node). IsSomeAnd o IsFile) (sym node-is) node-file;
   }
 
-  seen-is : attributes_of t.fsid id is.node.inode (length is.node.content) ≡ x.attributes
+  pub seen-is : attributes_of t.fsid id is.node.inode (length is.node.content) ≡ x.attributes
   seen-is =
       sym (attributes-live t id is.node)
       ∙ ap (λ (p : Place). attributes t (object_by p is.node)) (sym place-is)
       ∙ ap (λ (o : Object). attributes t o) (sym is.is) ∙ is.attributes
 
-  before-is : shown t (Live id) ≡ Some x.attributes
+  pub before-is : shown t (Live id) ≡ Some x.attributes
   before-is = ap (λ (p : Place). shown t p) (sym place-is ∙ sym (object-place t x o is)) ∙ shown-is t x o is
 
   module _ (offset : ℕ) (bytes : List ℕ) (now : Moment) where

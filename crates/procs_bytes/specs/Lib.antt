@@ -1,2 +1,4 @@
 pub mod Seeing
 pub mod Writing
+pub mod Waiting
+pub mod Resizing

@@ -1,13 +1,19 @@
-//! The procedures on the bytes of files, as transactions over records: READ, WRITE and COMMIT, on the live tree.
+//! The procedures on the bytes of files, as transactions over records: READ, WRITE, COMMIT and SETATTR with a size, on the live
+//! tree.
 //!
 //! It promises of each, whatever it reads: it ends as its row of the answer table says, on every sound tree that may lie below,
-//! and the tree that lies below then is the row's; or it gives up, and why (`Performs`). It stands on `file_ops` for the bytes of
-//! files, on `procs_object` for what handles lead to, and on `fs_rules` for the table and its rules.
+//! and the tree that lies below then is the row's; or it gives up, and why (`Performs`). Where a file is cut, a sweep of it may
+//! have to come first, and only where its stale extents stand in the way (`PerformsOrWaits`). It stands on `file_ops` for the
+//! bytes of files, on `procs_object` for what handles lead to, and on `fs_rules` for the table and its rules.
 #![tactic(auto)]
 
 mod checks;
 mod reading;
+mod resizing;
+mod stop;
 mod writing;
 
 pub use reading::{commit, read};
+pub use resizing::set_attr_sized;
+pub use stop::Stop;
 pub use writing::write;

@@ -1,0 +1,112 @@
+//! SETATTR, with a size.
+
+ghost use Rattle.std.specs.Prelude.{◌≡◌, ◌+◌, ◌<◌, ◌^◌, ◌&&◌, nat_lt, nat_le, not, true, Some, OnOk};
+ghost use Rattle.fs_rules.specs.Attributes.{given, is_file as is_file_kind};
+ghost use Rattle.fs_rules.specs.Checks.{is_live as is_live_place};
+ghost use Rattle.fs_rules.specs.Limits.{most_numbers};
+ghost use Rattle.fs_rules.specs.Places.{Object, fileid_at};
+ghost use Rattle.fs_rules.specs.Setting as table;
+ghost use Rattle.fs_rules.specs.Setting.{is_same};
+ghost use Rattle.procs_object.specs.Finding.{IsOfLive};
+ghost use Rattle.procs_bytes.specs.Resizing.{may_set};
+ghost use Rattle.procs_bytes.specs.Waiting.{PerformsOrWaits};
+
+use crate::stop::Stop;
+use file_ops::set_size;
+use fs_keys::Head;
+use fs_rules::limits::MOST_NUMBERS;
+use fs_rules::{Place, apply_sattr, sattr_fault, wcc_of};
+use fs_shows::Halt;
+use inode_ops::describe;
+use nfs3_types::{Body, Cred, Moment, SetAttrArgs, Status, Text};
+use pairs::Blocks;
+use procs_object::{Found, is_live, see};
+use std::alloc::Global;
+
+/// Whether the guard is another time than this.
+fn is_guarded(guard: Option<Moment>, time: Moment) -> bool
+    ensures { result ≡ given guard (λ guard. not (is_same guard time)) }
+{
+    match guard {
+        Some(guard) => guard != time,
+        None => false,
+    }
+}
+
+/// That a caller may set these attributes of what was found, with a size.
+#[tactic(auto, using(crate::proofs::SizeSet::fault_none), unfolding(crate::specs::Resizing::may_set))]
+fn may_set(cred: &Cred, a: &SetAttrArgs<Text>, size: u64, o: &Found) -> Result<(), Status>
+    requires { a.now.attributes.size ≡ Some size }
+    ensures check { (object : Object) → object.place ≡ o.now.place → object.inode ≡ o.now.inode.head.kept
+        → may_set object o.now.attributes cred.now a.now ≡ result }
+    ensures live { OnOk result (is_live_place o.now.place ≡ true) }
+    ensures file { OnOk result (is_file_kind o.now.attributes.kind ≡ true) }
+{
+    if !is_live(o.place) {
+        return Err(Status::Rofs);
+    }
+    if is_guarded(a.guard, o.inode.head.kept.ctime) {
+        return Err(Status::NotSync);
+    }
+    match sattr_fault(cred, &o.attributes, &a.attributes) {
+        Some(status) => Err(status),
+        None => Ok(()),
+    }
+}
+
+/// Whether this size is a cut of the file, and one too many.
+#[tactic(auto, unfolding(fs_rules::specs::Limits::most_numbers))]
+fn lacks_cuts(size: u64, head: &Head) -> bool
+    ensures { result ≡ (nat_lt size head.now.size && nat_le most_numbers (head.now.kept.cuts + 1)) }
+{
+    size < head.size && head.kept.cuts >= MOST_NUMBERS - 1
+}
+
+/// The number of the file at a place.
+fn number_at(place: Place) -> u64
+    ensures is { result ≡ fileid_at place }
+    ensures fits { result < 2 ^ 64 }
+{
+    place.fileid()
+}
+
+/// SETATTR, where this size is given; or it is to be made again behind a sweep of the file.
+#[tactic(none)]
+pub fn set_attr_sized<P: Blocks>(
+    alloc: Global,
+    pairs: &mut P,
+    cred: &Cred,
+    a: &SetAttrArgs<Text>,
+    size: u64,
+    now: Moment,
+) -> Result<Body, Stop>
+    requires live { IsOfLive a.now.object }
+    requires sized { a.now.attributes.size ≡ Some size }
+    ensures { PerformsOrWaits P.told pairs.old pairs.new 4 (λ t. table.set_attr t cred.now a.now now) result }
+{
+    let o = match see(alloc, pairs, a.object.as_slice()) {
+        Ok(o) => o,
+        Err(halt) => return Err(Stop::Halted(halt)),
+    };
+    match may_set(cred, a, size, &o) {
+        Ok(()) => {}
+        Err(status) => return Err(Stop::Halted(Halt::Refused(status))),
+    }
+    if lacks_cuts(size, &o.inode.head) {
+        return Err(Stop::Halted(Halt::Refused(Status::NoSpc)));
+    }
+    let after = apply_sattr(&o.attributes, &a.attributes, now);
+    let id = number_at(o.place);
+    let is_set = match set_size(alloc, pairs, id, size) {
+        Ok(is_set) => is_set,
+        Err(fault) => return Err(Stop::Halted(Halt::Fault(fault))),
+    };
+    if is_set {
+        match describe(alloc, pairs, id, &after) {
+            Ok(()) => Ok(Body::SetAttr(wcc_of(Some(o.attributes), Some(after)))),
+            Err(fault) => Err(Stop::Halted(Halt::Fault(fault))),
+        }
+    } else {
+        Err(Stop::SweepFirst(id))
+    }
+}
