@@ -1,5 +1,5 @@
 -- Procedures that may have to wait for a sweep.
-use Rattle.std.proofs.Common.{◌≡◌, ◌∙◌, ℕ, ◌+◌, ◌<◌, ◌^◌, length, Option, Some, Result, Ok, Err, sym, subst}
+use Rattle.std.proofs.Common.{◌≡◌, ◌∙◌, ℕ, ◌+◌, ◌<◌, ◌≤◌, ◌^◌, length, Option, Some, Result, Ok, Err, sym, subst, arith}
 use Rattle.nfs3_types.specs.declared.body.Body.{Body}
 use Rattle.pairs.specs.declared.at.At.TheVariants.{Live}
 use Rattle.pairs.specs.Versions.{Versions}
@@ -10,9 +10,11 @@ use Rattle.fs_rules.specs.Sound.{IsSound}
 use Rattle.fs_rules.specs.Tree.{Tree, Node}
 use Rattle.fs_keys.specs.declared.key_parts.KeyParts.TheVariants.{Inode as InodeKey}
 use Rattle.fs_shows.specs.declared.halt.Halt.{Halt}
+use Rattle.fs_shows.specs.declared.halt.Halt.TheVariants.{Refused, Fault}
+use Rattle.pair_types.specs.declared.fault.PairFault.TheVariants.{Odd, HeightFull, Page}
 use Rattle.fs_shows.specs.Extents.{row as value_of_row}
 use Rattle.fs_shows.specs.Shows.{Shows}
-use Rattle.fs_shows.proofs.Doing.{goes-then}
+use Rattle.fs_shows.proofs.Doing.{goes-then, goes-most}
 use Rattle.fs_shows.proofs.InodeEdits.{node-held}
 use Rattle.procs_object.specs.declared.object.Found.{Found}
 use Rattle.procs_object.specs.Finding.{IsObject, CheckedOn}
@@ -50,6 +52,9 @@ falls-so v t id size n fits shows waits was file =
     one : (m n : Node) (o : Option Node) → o ≡ Some m → o ≡ Some n → m ≡ n
     one m n o p q = cc
 
+at-least : (m n : ℕ) → 1 ≤ m → m ≤ n → 1 ≤ n
+at-least m n some more = omega (arith, some, more)
+
 -- what ends any procedure
 abbrev pub stopped : Result Body Halt → Result Body Stop
 stopped (Ok body) = Ok body
@@ -60,6 +65,27 @@ module _ {S W : Type 0} (told : PairsTold S W) where
       → PerformsOrWaits told old new most row (stopped r)
   no-wait old new most row (Ok body) p = record { goes = p.goes; ends = p.ends }
   no-wait old new most row (Err halt) p = record { goes = p.goes; ends = p.ends }
+
+  -- more puts
+  pub performs-more : (old new : S) (m n : ℕ) (row : Tree → Row) (r : Result Body Halt) → m ≤ n → Performs told old new m row r
+      → Performs told old new n row r
+  performs-more old new m n row (Ok body) more p = record { goes = goes-most told old new m n more p.goes; ends = p.ends }
+  performs-more old new m n row (Err (Refused status)) more p = record {
+    goes = goes-most told old new m n more p.goes;
+    ends = p.ends;
+  }
+  performs-more old new m n row (Err (Fault Odd)) more p = record {
+    goes = goes-most told old new m n more p.goes;
+    ends = p.ends;
+  }
+  performs-more old new m n row (Err (Fault HeightFull)) more p = record {
+    goes = goes-most told old new m n more p.goes;
+    ends = (at-least m n p.ends.0 more, p.ends.1, p.ends.2);
+  }
+  performs-more old new m n row (Err (Fault (Page fault))) more p = record {
+    goes = goes-most told old new m n more p.goes;
+    ends = p.ends;
+  }
 
   -- the size waits for a sweep
   pub held-up : (old mid new : S) (m n : ℕ) (row : Tree → Row) (check : Tree → Check Object) (x : Found) (id size : ℕ)

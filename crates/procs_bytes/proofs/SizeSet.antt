@@ -19,8 +19,9 @@ use Rattle.fs_rules.specs.declared.place.Place.TheVariants.{Live}
 use Rattle.fs_rules.specs.declared.plans.SetAttrPlan.{SetAttrPlan}
 use Rattle.fs_rules.specs.Attributes.{apply_sattr, attributes_of, given, is_file, sattr_fault, wcc_of}
 use Rattle.fs_rules.specs.Checks.{Check, ◌>>=◌, done, find_object, is_live, need_live, no_fault, refuse_if}
-use Rattle.fs_rules.specs.Edits.{edit_node, set_attributes, set_size, set_size_if, with_node}
+use Rattle.fs_rules.specs.Edits.{edit_node, set_attributes, set_size, set_size_if, touch, with_node}
 use Rattle.fs_rules.specs.Limits.{most_numbers}
+use Rattle.fs_rules.specs.Making.{give_size}
 use Rattle.fs_rules.specs.Places.{Object, object_by, node_at, attributes, shown, change, fileid_at}
 use Rattle.fs_rules.specs.Setting.{set_attr, set_attr_plan, is_same, lacks_cuts}
 use Rattle.fs_rules.specs.Sound.{IsSound, IsNodeWithin}
@@ -129,6 +130,11 @@ sized-there id size t (Some n) is file =
 -- the file is there still, once it was sized
 pub sized-still : (id size : ℕ) (t : Tree) → MaySize id t → IsThere id (edit_node id (set_size size) t)
 sized-still id size t may = sized-there id size t (t.nodes id) refl may.fill.file
+
+-- and its times then
+pub given-so : (id size : ℕ) (now : Moment) (t : Tree)
+    → edit_node id (touch now) (edit_node id (set_size size) t) ≡ edit_node id (give_size (Some size) now) t
+given-so id size now t = sym (twice id (set_size size) (touch now) t)
 
 -- ---- the row
 

@@ -1,5 +1,5 @@
-//! The procedures on the bytes of files, as transactions over records: READ, WRITE, COMMIT and SETATTR with a size, on the live
-//! tree.
+//! The procedures on the bytes of files, as transactions over records: READ, WRITE, COMMIT and SETATTR, on the live tree; and
+//! what CREATE does to a file that is there, where it gives a size.
 //!
 //! It promises of each, whatever it reads: it ends as its row of the answer table says, on every sound tree that may lie below,
 //! and the tree that lies below then is the row's; or it gives up, and why (`Performs`). Where a file is cut, a sweep of it may
@@ -14,6 +14,6 @@ mod stop;
 mod writing;
 
 pub use reading::{commit, read};
-pub use resizing::set_attr_sized;
+pub use resizing::{give_size, set_attr};
 pub use stop::Stop;
 pub use writing::write;

@@ -1,14 +1,17 @@
-//! SETATTR, with a size.
+//! SETATTR, and what CREATE does to a file that is there.
 
-ghost use Rattle.std.specs.Prelude.{◌≡◌, ◌+◌, ◌<◌, ◌^◌, ◌&&◌, nat_lt, nat_le, not, true, Some, OnOk};
+ghost use Rattle.std.specs.Prelude.{◌≡◌, ◌+◌, ◌<◌, ◌^◌, ◌&&◌, nat_lt, nat_le, not, true, Some, OnOk, IfOk, IfErr};
 ghost use Rattle.fs_rules.specs.Attributes.{given, is_file as is_file_kind};
 ghost use Rattle.fs_rules.specs.Checks.{is_live as is_live_place};
 ghost use Rattle.fs_rules.specs.Limits.{most_numbers};
 ghost use Rattle.fs_rules.specs.Places.{Object, fileid_at};
 ghost use Rattle.fs_rules.specs.Setting as table;
 ghost use Rattle.fs_rules.specs.Setting.{is_same};
+ghost use Rattle.pairs.specs.Told.{Goes};
+ghost use Rattle.fs_shows.specs.Steps.{EditGivesUp};
 ghost use Rattle.procs_object.specs.Finding.{IsOfLive};
-ghost use Rattle.procs_bytes.specs.Resizing.{may_set};
+ghost use Rattle.file_ops.specs.Given.{MaySize};
+ghost use Rattle.procs_bytes.specs.Resizing.{may_set, GivesOrWaits};
 ghost use Rattle.procs_bytes.specs.Waiting.{PerformsOrWaits};
 
 use crate::stop::Stop;
@@ -17,10 +20,11 @@ use fs_keys::Head;
 use fs_rules::limits::MOST_NUMBERS;
 use fs_rules::{Place, apply_sattr, sattr_fault, wcc_of};
 use fs_shows::Halt;
-use inode_ops::describe;
+use inode_ops::{describe, touch};
 use nfs3_types::{Body, Cred, Moment, SetAttrArgs, Status, Text};
+use pair_types::PairFault;
 use pairs::Blocks;
-use procs_object::{Found, is_live, see};
+use procs_object::{Found, is_live, see, set_attr as set_unsized};
 use std::alloc::Global;
 
 /// Whether the guard is another time than this.
@@ -72,7 +76,7 @@ fn number_at(place: Place) -> u64
 
 /// SETATTR, where this size is given; or it is to be made again behind a sweep of the file.
 #[tactic(none)]
-pub fn set_attr_sized<P: Blocks>(
+fn set_attr_sized<P: Blocks>(
     alloc: Global,
     pairs: &mut P,
     cred: &Cred,
@@ -108,5 +112,54 @@ pub fn set_attr_sized<P: Blocks>(
         }
     } else {
         Err(Stop::SweepFirst(id))
+    }
+}
+
+/// SETATTR; or it is to be made again behind a sweep of the file.
+#[tactic(none)]
+pub fn set_attr<P: Blocks>(
+    alloc: Global,
+    pairs: &mut P,
+    cred: &Cred,
+    a: &SetAttrArgs<Text>,
+    now: Moment,
+) -> Result<Body, Stop>
+    requires { IsOfLive a.now.object }
+    ensures { PerformsOrWaits P.told pairs.old pairs.new 4 (λ t. table.set_attr t cred.now a.now now) result }
+{
+    match a.attributes.size {
+        Some(size) => set_attr_sized(alloc, pairs, cred, a, size, now),
+        None => match set_unsized(alloc, pairs, cred, a, now) {
+            Ok(body) => Ok(body),
+            Err(halt) => Err(Stop::Halted(halt)),
+        },
+    }
+}
+
+/// CREATE gives a file that is there a size, and its times. `false`, and nothing is changed, where a sweep of it has to come
+/// first.
+#[tactic(none)]
+pub fn give_size<P: Blocks>(
+    alloc: Global,
+    pairs: &mut P,
+    id: u64,
+    size: u64,
+    now: Moment,
+) -> Result<bool, PairFault>
+    ensures goes { Goes P.told pairs.old pairs.new 4 }
+    ensures ok { IfOk result (GivesOrWaits P.told pairs.old pairs.new id size now) }
+    ensures fault { IfErr result (EditGivesUp P.told pairs.old pairs.new (MaySize id)) }
+{
+    let is_set = match set_size(alloc, pairs, id, size) {
+        Ok(is_set) => is_set,
+        Err(fault) => return Err(fault),
+    };
+    if is_set {
+        match touch(alloc, pairs, id, now) {
+            Ok(()) => Ok(true),
+            Err(fault) => Err(fault),
+        }
+    } else {
+        Ok(false)
     }
 }
