@@ -1,12 +1,12 @@
 -- How a game goes on.
-use Rattle.std.proofs.Common.{arith, ◌≡◌, ◌∙◌, ◌+◌, ◌%◌, ℕ, zero, suc, refl, sym, ap, subst, ◌∷◌, length, Some}
+use Rattle.std.proofs.Common.{arith, ◌≡◌, ◌∙◌, ◌+◌, ℕ, zero, suc, refl, sym, ap, subst, ◌∷◌, length, Some}
 use Rattle.nfs3_types.specs.declared.reply.Reply.{Reply}
 use Rattle.nfs3_types.specs.Calls.{Call}
-use Rattle.fs_rules.specs.Answers.{Asked, after, answer}
+use Rattle.fs_rules.specs.Answers.{after, answer}
 use Rattle.fs_rules.specs.Tree.{Tree}
 use Rattle.workload.specs.Drive.{Drive, drive}
 use Rattle.workload.specs.Driving.{Driving, DriverAt}
-use Rattle.workload_judge.specs.Played.{PlayedTo, asked_by, caller, played}
+use Rattle.workload_judge.specs.Played.{PlayedTo, asked_by, asks, played}
 
 -- there is a reply for each call
 pub as_many : (number rough calls : ℕ) → length (played number rough calls).replies ≡ calls
@@ -17,10 +17,6 @@ as_many number rough (suc calls) = ap suc (as_many number rough calls)
 -- the call after so many
 abbrev next : ℕ → ℕ → ℕ → Drive
 next number rough calls = drive number rough (played number rough calls).replies
-
--- what the plain tree is asked by this call, after so many
-abbrev pub asks : ℕ → Call → Asked
-asks calls call = record { cred = caller; call = call; now = record { seconds = calls + 1; nanos = 0 }; lane = calls % 4 }
 
 -- the moment and the lane are those that the workload gives the call
 asked_is : (number rough calls : ℕ) (call : Call) → call ≡ (next number rough calls).call

@@ -1,7 +1,8 @@
 -- The workload of a number on the plain tree.
-use Rattle.std.specs.Prelude.{◌≡◌, ℕ, zero, suc, List, [], ◌∷◌, length, Some}
+use Rattle.std.specs.Prelude.{◌≡◌, ◌+◌, ◌%◌, ℕ, zero, suc, List, [], ◌∷◌, length, Some}
 use Rattle.nfs3_types.specs.declared.cred.Cred.{Cred}
 use Rattle.nfs3_types.specs.declared.moment.Moment.{Moment}
+use Rattle.nfs3_types.specs.Calls.{Call}
 use Rattle.fs_rules.specs.Answers.{Asked, after, answer}
 use Rattle.fs_rules.specs.Tree.{Tree, first_tree}
 use Rattle.plain_nodes.specs.Counts.{IsListed, Lists, bytes_at}
@@ -24,6 +25,10 @@ verifier = 102 ∷ 115 ∷ 115 ∷ 0 ∷ 0 ∷ 0 ∷ 0 ∷ 1 ∷ []
 -- what the plain tree is asked: the call's lane is its pass
 abbrev pub asked_by : Drive → Asked
 asked_by next = record { cred = caller; call = next.call; now = next.moment; lane = next.pass }
+
+-- what the plain tree is asked by this call, after so many
+abbrev pub asks : ℕ → Call → Asked
+asks calls call = record { cred = caller; call = call; now = record { seconds = calls + 1; nanos = 0 }; lane = calls % 4 }
 
 -- the tree and the replies after some calls, the newest first
 pub record Played : Type 0 where

@@ -1,11 +1,12 @@
 //! The calls of a number on the plain tree.
 
 ghost use Rattle.std.specs.Prelude.{◌≡◌, ◌<◌, ◌-◌, ◌^◌, ◌+◌, ℕ, IfOk, OnOk};
+ghost use Rattle.plain_tree.specs.Giving.{Answers};
 ghost use Rattle.plain_tree.specs.Trees.{tree_of};
-ghost use Rattle.workload_judge.specs.Played.{IsCounted, PlayedTo, caller, played};
+ghost use Rattle.workload_judge.specs.Played.{IsCounted, PlayedTo, asks, caller, played};
 
 use crate::counts::Counts;
-use nfs3_types::{Cred, Moment, NoMemory, Text};
+use nfs3_types::{Cred, Moment, NoMemory, OwnCall, Reply, Text};
 use plain_tree::Plain;
 use std::alloc::Global;
 use workload::Driver;
@@ -35,6 +36,18 @@ fn first_tree(alloc: Global) -> Result<Plain, NoMemory>
     Plain::new(alloc, FSID, [102, 115, 115, 0, 0, 0, 0, 1], first)
 }
 
+/// What the plain tree answers to this call, after so many.
+fn answered(alloc: Global, tree: &mut Plain, call: OwnCall, before: u32) -> Result<Reply, NoMemory>
+    requires low { before < 2 ^ 32 - 1 }
+    ensures { Answers (asks before call) (tree_of tree.old) (tree_of tree.new) result }
+{
+    let moment = Moment {
+        seconds: before + 1,
+        nanos: 0,
+    };
+    tree.answer(alloc, &caller(alloc), &call, moment, before % 4)
+}
+
 /// Makes one call more, after so many.
 fn take_turn(
     alloc: Global,
@@ -48,11 +61,7 @@ fn take_turn(
         → OnOk result (PlayedTo number rough (before + 1) (tree_of tree.new) driver.new) }
 {
     let call = driver.next_call(alloc)?;
-    let moment = Moment {
-        seconds: before + 1,
-        nanos: 0,
-    };
-    let reply = tree.answer(alloc, &caller(alloc), &call, moment, before % 4)?;
+    let reply = answered(alloc, tree, call, before)?;
     driver.learn(&reply);
     Ok(())
 }
