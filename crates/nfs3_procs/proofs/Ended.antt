@@ -80,11 +80,12 @@ module _ {S W : Type 0} (told : PairsTold S W) where
   }
 
   -- the reply is built from what the procedure gave
-  pub answers : (old new : S) (asked : Asked) (r : Result Body Stop)
+  pub answers : (old new : S) (asked : Asked) (r : Result Body Stop) → IsBuilt asked.call
       → PerformsOrWaits told old new (most_puts asked.call) (λ t. row t asked) r
       → Answers told old new asked (replied (procedure_of asked.call) r)
-  answers old new asked (Ok body) p = record {
+  answers old new asked (Ok body) built p = record {
     goes = p.goes;
+    refused = λ not. absurd (not built);
     ends = λ w t agrees lies sound.
         let a = p.ends w t agrees lies sound in
         record {
@@ -92,8 +93,9 @@ module _ {S W : Type 0} (told : PairsTold S W) where
           lies = subst (λ (r : Row). Lies told new w (tree_by t r)) (sym a.is) a.lies;
         };
   }
-  answers old new asked (Err (Halted (Refused status))) p = record {
+  answers old new asked (Err (Halted (Refused status))) built p = record {
     goes = p.goes;
+    refused = λ not. absurd (not built);
     ends = λ w t agrees lies sound.
         let a = p.ends w t agrees lies sound in
         record {
@@ -101,8 +103,16 @@ module _ {S W : Type 0} (told : PairsTold S W) where
           lies = subst (λ (r : Row). Lies told new w (tree_by t r)) (sym a.is) a.lies;
         };
   }
-  answers old new asked (Err (Halted (Fault fault))) p = record { goes = p.goes; ends = p.ends }
-  answers old new asked (Err (SweepFirst id)) p = record { goes = p.goes; ends = p.ends }
+  answers old new asked (Err (Halted (Fault fault))) built p = record {
+    goes = p.goes;
+    ends = p.ends;
+    refused = λ not. absurd (not built);
+  }
+  answers old new asked (Err (SweepFirst id)) built p = record {
+    goes = p.goes;
+    ends = p.ends;
+    refused = λ not. absurd (not built);
+  }
 
   -- of a handle, by a copy of it that is lent
   pub by-handle : (old new : S) (row : List ℕ → Tree → Row) (r : Result Body Halt) (lent own : List ℕ) → lent ≡ own
@@ -127,13 +137,14 @@ module _ {S W : Type 0} (told : PairsTold S W) where
   leaves s asked not = record {
     goes = goes-most told s s 0 (most_puts asked.call) (omega arith) (goes-none told s);
     ends = (not, refl);
+    refused = λ still. refl;
   }
 
   -- the reply, as it was built
   pub answers-so : (old new : S) (asked : Asked) (procedure : ℕ) (r : Result Body Stop) (result : Result Reply BodyFault)
-      → procedure ≡ procedure_of asked.call → result ≡ replied procedure r
+      → IsBuilt asked.call → procedure ≡ procedure_of asked.call → result ≡ replied procedure r
       → PerformsOrWaits told old new (most_puts asked.call)
       (λ t. row_of t asked.cred asked.now asked.lane asked.call) r → Answers told old new asked result
   unfolding row
-  answers-so old new asked procedure r result number is p =
-      subst (Answers told old new asked) (sym (is ∙ ap (λ (n : ℕ). replied n r) number)) (answers old new asked r p)
+  answers-so old new asked procedure r result built number is p =
+      subst (Answers told old new asked) (sym (is ∙ ap (λ (n : ℕ). replied n r) number)) (answers old new asked r built p)

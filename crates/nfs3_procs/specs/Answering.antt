@@ -52,3 +52,5 @@ module _ {S W : Type 0} (told : PairsTold S W) (old new : S) where
   pub record Answers (asked : Asked) (result : Result Reply BodyFault) : Type 0 where
     pub goes : Goes told old new (most_puts asked.call)
     pub ends : EndsAs asked result
+    -- a call that is not built is told so
+    pub refused : (IsBuilt asked.call → ⊥) → result ≡ Err NotBuilt

@@ -21,4 +21,4 @@ pub returns : goal.returns
 returns g c =
     answers-so g.P.Pairs.told c.args.pairs.now c.act.new.pairs
     (record { cred = c.args.cred.now; call = c.args.call.now; now = c.args.now; lane = c.args.lane })
-    c.procedure-procedure.result c.act.result c.reply.result c.procedure-procedure.ensures c.reply.ensures c.act.ensures
+    c.procedure-procedure.result c.act.result c.reply.result (c.is_built.ensures.0 c.if-not-is_built.false) c.procedure-procedure.ensures c.reply.ensures c.act.ensures
