@@ -1,10 +1,11 @@
 //! The rules of the file tree: which tree the service keeps, and what it answers to each call.
 //!
 //! Its definitions are the plain tree, the answer table and what a sound tree is (in `specs/`); its calls are
-//! the rules on rights, names and attributes that several layers share, which take no memory.
+//! the rules on rights, names and attributes ([`checks`] those that refuse) that several layers share, which take no memory.
 //! It stands on `nfs3_types`, and on `byteorder` for words among bytes.
 #![tactic(auto)]
 
+pub mod checks;
 mod inode;
 pub mod limits;
 mod name_entry;

@@ -1,70 +1,14 @@
 //! The checks that procedures share: each is the answer table's of the same name.
 
 ghost use Rattle.std.specs.Prelude.{◌≡◌, true, IfOk, OnOk};
-ghost use Rattle.fs_rules.specs.Attributes as attributes;
 ghost use Rattle.fs_rules.specs.Checks as checks;
 ghost use Rattle.plain_tree.specs.Needs.{Stands};
 
 use crate::object::Object;
 use crate::plain::Plain;
-use fs_rules::{Place, may_search, name_fault};
-use nfs3_types::{Cred, DirOp, FileType, Handle, Status, Text};
-
-/// Refuses a call with this status where a condition holds.
-pub fn refuse_if(condition: bool, status: Status) -> Result<(), Status>
-    ensures { result ≡ checks.refuse_if condition status }
-{
-    if condition { Err(status) } else { Ok(()) }
-}
-
-/// Refuses a call with this status where a condition does not hold.
-pub fn need(condition: bool, status: Status) -> Result<(), Status>
-    ensures { result ≡ checks.need condition status }
-{
-    refuse_if(!condition, status)
-}
-
-/// Refuses a call for a fault, where there is one.
-pub fn no_fault(fault: Option<Status>) -> Result<(), Status>
-    ensures { result ≡ checks.no_fault fault }
-{
-    match fault {
-        Some(status) => Err(status),
-        None => Ok(()),
-    }
-}
-
-/// Whether it is a directory.
-pub fn is_directory(kind: FileType) -> bool
-    ensures { result ≡ attributes.is_directory kind }
-{
-    kind == FileType::Dir
-}
-
-/// Whether it is a file.
-pub fn is_file(kind: FileType) -> bool
-    ensures { result ≡ attributes.is_file kind }
-{
-    kind == FileType::Reg
-}
-
-/// Whether it is a symbolic link.
-pub fn is_link(kind: FileType) -> bool
-    ensures { result ≡ attributes.is_link kind }
-{
-    kind == FileType::Lnk
-}
-
-/// Whether it stands in the live tree.
-pub fn is_live(place: Place) -> bool
-    ensures { result ≡ checks.is_live place }
-{
-    match place {
-        Place::Live(_) => true,
-        Place::SnapshotDirectory => false,
-        Place::Kept(_, _) => false,
-    }
-}
+use fs_rules::checks::{is_directory, is_file, is_live, need, need_good_name};
+use fs_rules::{Place, may_search};
+use nfs3_types::{Cred, DirOp, Handle, Status, Text};
 
 /// A directory is asked for.
 pub fn need_directory(o: &Object) -> Result<(), Status>
@@ -85,13 +29,6 @@ pub fn need_live(o: &Object) -> Result<(), Status>
     ensures { result ≡ checks.need_live o.now }
 {
     need(is_live(o.place), Status::Rofs)
-}
-
-/// An own name: not empty, without NUL and slash, and not too long.
-pub fn need_good_name(name: &[u8]) -> Result<(), Status>
-    ensures { result ≡ checks.need_good_name name.now }
-{
-    no_fault(name_fault(name))
 }
 
 /// A live directory, and an own name for it.

@@ -1,6 +1,5 @@
 //! CREATE.
 
-ghost use Rattle.std.specs.Option.{option_copied};
 ghost use Rattle.std.specs.Prelude.{◌≡◌, ◌<◌, true, false, IfOk, IfSome, OnErr, OnOk};
 ghost use Rattle.fs_rules.specs.Checks.{is_live};
 ghost use Rattle.fs_rules.specs.Edits.{edit_node};
@@ -11,7 +10,7 @@ ghost use Rattle.nfs3_types.specs.declared.file_type.FileType.TheVariants.{Reg};
 ghost use Rattle.plain_tree.specs.Giving.{DoesOwn};
 ghost use Rattle.plain_tree.specs.Needs.{CanMake, Stands};
 
-use crate::checks::{is_file, need, need_search, refuse_if};
+use crate::checks::need_search;
 use crate::fault::Fault;
 use crate::making::{Making, is_reserved};
 use crate::object::Object;
@@ -19,6 +18,7 @@ use crate::plain::Plain;
 use crate::setting::lacks_cuts;
 use crate::writing::may_fill;
 use file_content::Content;
+use fs_rules::checks::{is_file, need, refuse_if};
 use fs_rules::{CreatePlan, Inode, NameEntry, NewPlan, Place, is_too_large, may_write, wcc_of};
 use nfs3_types::{
     Body, CreateArgs, CreateHow, CreateOk, Cred, FileType, Moment, NoMemory, Sattr, SetTime,

@@ -7,12 +7,10 @@ ghost use Rattle.plain_nodes.specs.Nodes.{nodes_of};
 ghost use Rattle.plain_tree.specs.Giving.{DoesOwn};
 ghost use Rattle.plain_tree.specs.Needs.{CanLink};
 
-use crate::checks::{
-    is_directory, is_live, need, need_directory, need_good_name, need_live, need_search, refuse_if,
-};
+use crate::checks::{need_directory, need_live, need_search};
 use crate::fault::Fault;
-use crate::making::lacks_cookies;
 use crate::plain::Plain;
+use fs_rules::checks::{is_directory, is_live, lacks_cookies, need, need_good_name, refuse_if};
 use fs_rules::limits::MOST_LINKS;
 use fs_rules::{LinkPlan, Place, wcc_of};
 use nfs3_types::{Body, Cred, LinkArgs, LinkOk, Moment, NoMemory, Status, Text};

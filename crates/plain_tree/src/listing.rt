@@ -8,12 +8,13 @@ ghost use Rattle.plain_tree.specs.Entries.{size_with};
 ghost use Rattle.plain_tree.specs.Giving.{GivesOwn};
 ghost use Rattle.plain_tree.specs.Trees.{tree_of};
 
-use crate::checks::{need, need_directory, refuse_if};
+use crate::checks::need_directory;
 use crate::fault::Fault;
 use crate::listed::{Listed, count_fitting, push_behind, push_names, push_snapshots};
 use crate::looking::above;
 use crate::object::Object;
 use crate::plain::Plain;
+use fs_rules::checks::need;
 use fs_rules::limits::MOST_LISTING;
 use fs_rules::{Place, may_read};
 use nfs3_types::{

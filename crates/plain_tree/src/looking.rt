@@ -4,65 +4,20 @@ ghost use Rattle.std.specs.Option.{option_copied};
 ghost use Rattle.std.specs.Prelude.{◌≡◌, option_map, true};
 ghost use Rattle.fs_rules.specs.Checks.{is_live};
 ghost use Rattle.fs_rules.specs.Looking as table;
-ghost use Rattle.fs_rules.specs.Names.{is_dot, is_dot_dot, is_dots, names_snapshots};
-ghost use Rattle.fs_rules.specs.Places.{above, beside, entry_at, is_live_root, is_snapshots_name, place_named};
+ghost use Rattle.fs_rules.specs.Names.{is_dot, is_dot_dot};
+ghost use Rattle.fs_rules.specs.Places.{above, beside, entry_at, is_snapshots_name, place_named};
 ghost use Rattle.fs_rules.specs.Removing as removing;
 ghost use Rattle.plain_tree.specs.Giving.{GivesOwn};
 
-use crate::checks::{need_directory, need_good_name, need_search};
+use crate::checks::{need_directory, need_search};
 use crate::fault::Fault;
 use crate::object::Object;
 use crate::plain::Plain;
 use crate::snapshots::snapshot_named;
+use fs_rules::checks::need_good_name;
 use fs_rules::{Inode, NameEntry, Place};
 use nfs3_types::{Body, Cred, DirOp, LookupOk, Status, Text};
 use std::alloc::Global;
-
-/// The name of a directory in itself.
-pub fn is_dot(name: &[u8]) -> bool
-    ensures { result ≡ is_dot name.now }
-{
-    name == b".".as_slice()
-}
-
-/// The name of the directory above.
-pub fn is_dot_dot(name: &[u8]) -> bool
-    ensures { result ≡ is_dot_dot name.now }
-{
-    name == b"..".as_slice()
-}
-
-/// The names of a directory in itself and of the directory above.
-pub fn is_dots(name: &[u8]) -> bool
-    ensures { result ≡ is_dots name.now }
-{
-    is_dot(name) || is_dot_dot(name)
-}
-
-/// The name of the directory of snapshots.
-fn names_snapshots(name: &[u8]) -> bool
-    ensures { result ≡ names_snapshots name.now }
-{
-    name == b".snapshot".as_slice()
-}
-
-/// Whether this is the live root.
-fn is_live_root(place: Place) -> bool
-    ensures { result ≡ is_live_root place }
-{
-    match place {
-        Place::Live(fileid) => fileid == 1,
-        Place::SnapshotDirectory => false,
-        Place::Kept(_, _) => false,
-    }
-}
-
-/// Whether the name leads from here to the directory of snapshots.
-pub fn is_snapshots_name(place: Place, name: &[u8]) -> bool
-    ensures { result ≡ is_snapshots_name place name.now }
-{
-    is_live_root(place) && names_snapshots(name)
-}
 
 /// The directory above: the root is above itself, `.snapshot` above a snapshot's root, and the root above it.
 pub fn above(place: Place, i: &Inode) -> Place

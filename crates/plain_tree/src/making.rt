@@ -1,6 +1,6 @@
 //! MKDIR and SYMLINK outside of `.snapshot`, and what CREATE shares with them.
 
-ghost use Rattle.std.specs.Prelude.{◌≡◌, ◌<◌, true, false, IfOk, OnOk, OnErr};
+ghost use Rattle.std.specs.Prelude.{◌≡◌, ◌<◌, true, IfOk, OnOk, OnErr};
 ghost use Rattle.nfs3_types.specs.declared.file_type.FileType.TheVariants.{Dir, Lnk};
 ghost use Rattle.fs_rules.specs.Checks.{is_live};
 ghost use Rattle.fs_rules.specs.Making as table;
@@ -8,18 +8,17 @@ ghost use Rattle.fs_rules.specs.declared.place.Place.TheVariants.{Live};
 ghost use Rattle.plain_tree.specs.Giving.{DoesOwn};
 ghost use Rattle.plain_tree.specs.Needs.{CanMake, Stands};
 
-use crate::checks::{
-    is_directory, is_file, need, need_place_for, need_search, no_fault, refuse_if,
-};
+use crate::checks::{need_place_for, need_search};
 use crate::fault::Fault;
-use crate::looking::{is_dots, is_snapshots_name};
 use crate::object::Object;
 use crate::plain::Plain;
 use file_content::Content;
-use fs_rules::limits::{MOST_LINKS, MOST_NUMBERS};
-use fs_rules::{
-    Inode, NewPlan, Place, is_in_group, is_too_large, may_write, target_fault, time_by, wcc_of,
+use fs_rules::checks::{
+    is_directory, is_dots, is_file, is_of_others, is_others, is_snapshots_name, lacks_cookies,
+    lacks_links, need, no_fault, refuse_if,
 };
+use fs_rules::limits::MOST_NUMBERS;
+use fs_rules::{Inode, NewPlan, Place, is_too_large, may_write, target_fault, time_by, wcc_of};
 use nfs3_types::{
     Body, CreateOk, Cred, FileType, MkdirArgs, Moment, NoMemory, Sattr, Status, SymlinkArgs, Text,
 };
@@ -122,42 +121,6 @@ pub fn new_node(alloc: Global, cred: &Cred, now: Moment, parent: u64, m: Making)
 }
 
 // ---- checks
-
-/// Whether a user is given that is another one than the caller, and the caller is not user 0.
-fn is_others(cred: &Cred, uid: Option<u32>) -> bool
-    ensures { result ≡ table.is_others cred.now uid }
-{
-    match uid {
-        Some(uid) => cred.uid != 0 && uid != cred.uid,
-        None => false,
-    }
-}
-
-/// Whether a group is given that the caller is not in, and the caller is not user 0.
-fn is_of_others(cred: &Cred, gid: Option<u32>) -> bool
-    ensures { result ≡ table.is_of_others cred.now gid }
-{
-    match gid {
-        Some(gid) => cred.uid != 0 && !is_in_group(cred, gid),
-        None => false,
-    }
-}
-
-/// Whether a directory has no room for a further node of this kind.
-#[tactic(auto, unfolding(fs_rules::specs::Limits::most_links))]
-fn lacks_links(kind: FileType, directory: &Inode) -> bool
-    ensures { result ≡ table.lacks_links kind directory.now }
-{
-    is_directory(kind) && directory.nlink >= MOST_LINKS
-}
-
-/// Whether a directory has no cookie for a further name.
-#[tactic(auto, unfolding(fs_rules::specs::Limits::most_numbers))]
-pub fn lacks_cookies(directory: &Inode) -> bool
-    ensures { result ≡ table.lacks_cookies directory.now }
-{
-    directory.next_cookie >= MOST_NUMBERS
-}
 
 /// A name that is there without an entry.
 pub fn is_reserved(directory: &Object, name: &[u8]) -> bool

@@ -5,9 +5,10 @@ ghost use Rattle.fs_rules.specs.Places.{content_at};
 ghost use Rattle.fs_rules.specs.Transfers as table;
 ghost use Rattle.plain_tree.specs.Giving.{GivesOwn};
 
-use crate::checks::{need, need_file};
+use crate::checks::need_file;
 use crate::fault::Fault;
 use crate::plain::Plain;
+use fs_rules::checks::need;
 use fs_rules::limits::MOST_TRANSFER;
 use fs_rules::{Place, may_read, may_search, owns, wcc_of};
 use nfs3_types::{Body, CommitOk, Cred, FileRange, NoMemory, ReadOk, Status, Text};

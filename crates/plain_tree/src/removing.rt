@@ -4,19 +4,14 @@ ghost use Rattle.std.specs.Prelude.{◌≡◌, true};
 ghost use Rattle.fs_rules.specs.Checks.{Does, is_live};
 ghost use Rattle.fs_rules.specs.Removing as table;
 
-use crate::checks::{is_directory, need, need_place_for, refuse_if};
-use crate::looking::{is_dot, is_dot_dot, is_dots, is_snapshots_name};
+use crate::checks::need_place_for;
 use crate::object::Object;
 use crate::plain::Plain;
-use fs_rules::{Inode, Place, RemovePlan, may_search, may_write, wcc_of};
+use fs_rules::checks::{
+    is_directory, is_dot, is_dot_dot, is_dots, is_snapshots_name, may_alter, need, refuse_if,
+};
+use fs_rules::{Place, RemovePlan, wcc_of};
 use nfs3_types::{Body, Cred, DirOp, Moment, Status, Text};
-
-/// Whether the caller may take names out of a directory and put others in.
-pub fn may_alter(cred: &Cred, directory: &Inode) -> bool
-    ensures { result ≡ table.may_alter cred.now directory.now }
-{
-    may_write(cred, directory) && may_search(cred, directory)
-}
 
 impl Plain {
     ghost use Rattle.plain_tree.specs.Trees.{tree_of};

@@ -1,6 +1,5 @@
 //! RENAME.
 
-ghost use Rattle.std.specs.Option.{option_copied};
 ghost use Rattle.std.specs.Prelude.{◌≡◌, ◌+◌, ◌||◌, if◌then◌else◌, true, false, option_map, Ok, IfOk, IfSome, OnErr, OnOk};
 ghost use Rattle.fs_rules.specs.Attributes.{given};
 ghost use Rattle.fs_rules.specs.Checks.{is_live};
@@ -12,13 +11,14 @@ ghost use Rattle.plain_nodes.specs.Nodes.{nodes_of};
 ghost use Rattle.plain_tree.specs.Giving.{DoesOwn};
 ghost use Rattle.plain_tree.specs.Needs.{CanMove, HasOpenWay, Stands};
 
-use crate::checks::{is_directory, need, need_directory, need_good_name, need_live, refuse_if};
+use crate::checks::{need_directory, need_live};
 use crate::fault::Fault;
-use crate::looking::{is_dots, is_snapshots_name};
-use crate::making::lacks_cookies;
 use crate::object::Object;
 use crate::plain::Plain;
-use crate::removing::may_alter;
+use fs_rules::checks::{
+    is_directory, is_dots, is_snapshots_name, lacks_cookies, may_alter, need, need_good_name,
+    refuse_if,
+};
 use fs_rules::limits::{DEEPEST, MOST_LINKS};
 use fs_rules::{Climb, Place, RenamePlan, Replaced, wcc_of};
 use nfs3_types::{Body, Cred, Moment, NoMemory, RenameArgs, RenameOk, Status, Text};

@@ -8,9 +8,10 @@ ghost use Rattle.plain_nodes.specs.Needs.{HasCuts};
 ghost use Rattle.plain_nodes.specs.Nodes.{nodes_of};
 ghost use Rattle.fs_rules.specs.Setting.{is_same};
 
-use crate::checks::{need_live, no_fault, refuse_if};
+use crate::checks::need_live;
 use crate::object::Object;
 use crate::plain::Plain;
+use fs_rules::checks::{no_fault, refuse_if};
 use fs_rules::limits::MOST_NUMBERS;
 use fs_rules::{Place, SetAttrPlan, apply_sattr, sattr_fault, wcc_of};
 use nfs3_types::{Body, Cred, Moment, SetAttrArgs, Status, Text};

@@ -7,12 +7,11 @@ ghost use Rattle.fs_rules.specs.Snapshots as table;
 ghost use Rattle.fs_rules.specs.declared.place.Place.TheVariants.{Kept, SnapshotDirectory};
 ghost use Rattle.plain_tree.specs.Giving.{DoesOwn};
 
-use crate::checks::{need, need_good_name, refuse_if};
 use crate::fault::Fault;
-use crate::looking::{is_dot, is_dot_dot, is_dots};
 use crate::plain::Plain;
 use crate::snapshot::Snapshot;
 use crate::snapshots::{drop_snapshots_named, snapshot_named};
+use fs_rules::checks::{is_dot, is_dot_dot, is_dots, need, need_good_name, refuse_if};
 use fs_rules::limits::{LAST_EPOCH, MOST_SNAPSHOTS};
 use fs_rules::{Place, wcc_of};
 use nfs3_types::{Body, CreateOk, Cred, DirOp, MkdirArgs, Moment, NoMemory, Status, Text};

@@ -4,10 +4,10 @@ ghost use Rattle.std.specs.Prelude.{◌≡◌};
 ghost use Rattle.fs_rules.specs.Telling as table;
 ghost use Rattle.plain_tree.specs.Giving.{GivesOwn};
 
-use crate::checks::{is_directory, is_link, need};
 use crate::fault::Fault;
 use crate::object::Object;
 use crate::plain::Plain;
+use fs_rules::checks::{is_directory, is_link, need};
 use fs_rules::limits::{LONGEST_NAME, MOST_LINKS, MOST_SIZE, TOLD_LISTING, TOLD_TRANSFER};
 use fs_rules::{Place, may_read, may_search, may_write};
 use nfs3_types::{

@@ -4,9 +4,10 @@ ghost use Rattle.std.specs.Prelude.{◌≡◌, ◌+◌, ◌^◌, ◌<◌, ◌≤
 ghost use Rattle.fs_rules.specs.Transfers as table;
 ghost use Rattle.plain_tree.specs.Giving.{DoesOwn};
 
-use crate::checks::{need, need_file, need_live, refuse_if};
+use crate::checks::{need_file, need_live};
 use crate::fault::Fault;
 use crate::plain::Plain;
+use fs_rules::checks::{need, refuse_if};
 use fs_rules::limits::{MOST_SIZE, MOST_TRANSFER};
 use fs_rules::{Inode, Place, WritePlan, may_write, owns, wcc_of};
 use nfs3_types::{Body, Cred, Moment, StableHow, Status, Text, WriteArgs, WriteOk};

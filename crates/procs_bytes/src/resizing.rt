@@ -17,6 +17,7 @@ ghost use Rattle.procs_bytes.specs.Waiting.{PerformsOrWaits};
 use crate::stop::Stop;
 use file_ops::set_size;
 use fs_keys::Head;
+use fs_rules::checks::is_live;
 use fs_rules::limits::MOST_NUMBERS;
 use fs_rules::{Place, apply_sattr, sattr_fault, wcc_of};
 use fs_shows::Halt;
@@ -24,7 +25,7 @@ use inode_ops::{describe, touch};
 use nfs3_types::{Body, Cred, Moment, SetAttrArgs, Status, Text};
 use pair_types::PairFault;
 use pairs::Blocks;
-use procs_object::{Found, is_live, see, set_attr as set_unsized};
+use procs_object::{Found, see, set_attr as set_unsized};
 use std::alloc::Global;
 
 /// Whether the guard is another time than this.

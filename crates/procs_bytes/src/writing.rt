@@ -11,6 +11,7 @@ ghost use Rattle.procs_bytes.specs.Writing.{write_plan_for, too_far, written_att
 
 use crate::checks::is_file;
 use file_ops::write_at;
+use fs_rules::checks::is_live;
 use fs_rules::limits::{MOST_SIZE, MOST_TRANSFER};
 use fs_rules::{Inode, WritePlan, may_write, owns, wcc_of};
 use fs_shows::Halt;

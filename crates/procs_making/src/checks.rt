@@ -1,7 +1,6 @@
 //! The checks of a name and of a new node: each is the answer table's, of what was found.
 
 ghost use Rattle.std.specs.Prelude.{◌≡◌, ◌||◌};
-ghost use Rattle.fs_rules.specs.Attributes as attributes;
 ghost use Rattle.fs_rules.specs.Checks as checks;
 ghost use Rattle.fs_rules.specs.Making as table;
 ghost use Rattle.fs_rules.specs.Names as names;
@@ -9,74 +8,22 @@ ghost use Rattle.fs_rules.specs.Places as places;
 ghost use Rattle.fs_rules.specs.Places.{Object};
 ghost use Rattle.procs_making.specs.Rooms as rooms;
 
-use fs_rules::limits::{MOST_LINKS, MOST_NUMBERS};
-use fs_rules::{Inode, Place, is_in_group, is_too_large, may_search, may_write};
+use fs_rules::checks::{
+    is_dots, is_file, is_of_others, is_others, is_snapshots_name, lacks_cookies, lacks_links, need,
+    refuse_if,
+};
+use fs_rules::limits::MOST_NUMBERS;
+use fs_rules::{Inode, Place, is_too_large, may_search, may_write};
 use nfs3_types::{Cred, FileType, Sattr, Status};
 use procs_object::Found;
 
-/// Refuses a call with this status where a condition holds.
-pub fn refuse_if(condition: bool, status: Status) -> Result<(), Status>
-    ensures { result ≡ checks.refuse_if condition status }
-{
-    if condition { Err(status) } else { Ok(()) }
-}
-
-/// Refuses a call with this status where a condition does not hold.
-pub fn need(condition: bool, status: Status) -> Result<(), Status>
-    ensures { result ≡ checks.need condition status }
-{
-    refuse_if(!condition, status)
-}
-
-/// Refuses a call for a fault, where there is one.
-pub fn no_fault(fault: Option<Status>) -> Result<(), Status>
-    ensures { result ≡ checks.no_fault fault }
-{
-    match fault {
-        Some(status) => Err(status),
-        None => Ok(()),
-    }
-}
-
-/// Whether it is a directory.
-pub fn is_directory(kind: FileType) -> bool
-    ensures { result ≡ attributes.is_directory kind }
-{
-    kind == FileType::Dir
-}
-
-/// Whether it is a file.
-pub fn is_file(kind: FileType) -> bool
-    ensures { result ≡ attributes.is_file kind }
-{
-    kind == FileType::Reg
-}
-
 // ---- names
-
-/// The names of a directory in itself and of the directory above.
-fn is_dots(name: &[u8]) -> bool
-    ensures { result ≡ names.is_dots name.now }
-{
-    name == b".".as_slice() || name == b"..".as_slice()
-}
-
-/// Whether this is the live root.
-fn is_live_root(place: Place) -> bool
-    ensures { result ≡ places.is_live_root place }
-{
-    match place {
-        Place::Live(fileid) => fileid == 1,
-        Place::SnapshotDirectory => false,
-        Place::Kept(_, _) => false,
-    }
-}
 
 /// A name that is there without an entry.
 fn is_reserved(place: Place, name: &[u8]) -> bool
     ensures { result ≡ (names.is_dots name.now || places.is_snapshots_name place name.now) }
 {
-    is_dots(name) || (is_live_root(place) && name == b".snapshot".as_slice())
+    is_dots(name) || is_snapshots_name(place, name)
 }
 
 /// The caller may look names up in the directory, and this one is not there without an entry.
@@ -91,42 +38,6 @@ pub fn check_name(cred: &Cred, directory: &Found, name: &[u8]) -> Result<(), Sta
 }
 
 // ---- new nodes
-
-/// Whether a user is given that is another one than the caller, and the caller is not user 0.
-fn is_others(cred: &Cred, uid: Option<u32>) -> bool
-    ensures { result ≡ table.is_others cred.now uid }
-{
-    match uid {
-        Some(uid) => cred.uid != 0 && uid != cred.uid,
-        None => false,
-    }
-}
-
-/// Whether a group is given that the caller is not in, and the caller is not user 0.
-fn is_of_others(cred: &Cred, gid: Option<u32>) -> bool
-    ensures { result ≡ table.is_of_others cred.now gid }
-{
-    match gid {
-        Some(gid) => cred.uid != 0 && !is_in_group(cred, gid),
-        None => false,
-    }
-}
-
-/// Whether a directory has no room for a further node of this kind.
-#[tactic(auto, unfolding(fs_rules::specs::Limits::most_links))]
-fn lacks_links(kind: FileType, directory: &Inode) -> bool
-    ensures { result ≡ table.lacks_links kind directory.now }
-{
-    is_directory(kind) && directory.nlink >= MOST_LINKS
-}
-
-/// Whether a directory has no cookie for a further name.
-#[tactic(auto, unfolding(fs_rules::specs::Limits::most_numbers))]
-fn lacks_cookies(directory: &Inode) -> bool
-    ensures { result ≡ table.lacks_cookies directory.now }
-{
-    directory.next_cookie >= MOST_NUMBERS
-}
 
 /// A new node of this kind can be made in a directory, and this number can be given.
 #[tactic(auto, unfolding(crate::specs::Rooms::node_check, fs_rules::specs::Limits::most_numbers))]

@@ -4,9 +4,9 @@ ghost use Rattle.std.specs.Prelude.{◌≡◌};
 ghost use Rattle.fs_rules.specs.Making as table;
 ghost use Rattle.procs_making.specs.Children as children;
 
-use crate::checks::is_directory;
 use crate::room::Room;
 use fs_keys::{Head, Inode};
+use fs_rules::checks::is_directory;
 use fs_rules::{Inode as Kept, NewPlan, time_by};
 use nfs3_types::{Cred, FileType, Moment, Sattr, Text};
 use std::marker::Model;

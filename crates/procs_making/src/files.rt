@@ -9,10 +9,11 @@ ghost use Rattle.procs_making.specs.Children as children;
 ghost use Rattle.procs_making.specs.Plans.{file_check, GivesNoSize};
 ghost use Rattle.procs_making.specs.Taking.{IsTaken, taken_check, taken_found, told_taken};
 
-use crate::checks::{check_node, is_file, need};
+use crate::checks::check_node;
 use crate::child::{Making, NewNode, child_in};
 use crate::making::make_and_tell;
 use crate::room::{Room, find_room};
+use fs_rules::checks::{is_file, need};
 use fs_rules::{Inode, may_write, wcc_of};
 use fs_shows::Halt;
 use nfs3_types::{

@@ -10,10 +10,11 @@ ghost use Rattle.procs_object.specs.Performing.{Performs};
 ghost use Rattle.procs_making.specs.Children as children;
 ghost use Rattle.procs_making.specs.Plans.{link_check};
 
-use crate::checks::{check_free, check_node, no_fault};
+use crate::checks::{check_free, check_node};
 use crate::child::{Making, NewNode, child_in};
 use crate::making::make_and_tell;
 use crate::room::{Room, find_room};
+use fs_rules::checks::no_fault;
 use fs_rules::target_fault;
 use fs_shows::Halt;
 use nfs3_types::{Body, Cred, FileType, Moment, Status, SymlinkArgs, Text};

@@ -7,9 +7,9 @@ ghost use Rattle.fs_shows.specs.Steps.{Edits, EditGivesUp};
 ghost use Rattle.pairs.specs.Told.{Goes};
 ghost use Rattle.procs_making.specs.Children.{node_by, made_in, CanMake, gained_attributes, told_new};
 
-use crate::checks::is_directory;
 use crate::child::NewNode;
 use dir_ops::add;
+use fs_rules::checks::is_directory;
 use fs_rules::wcc_of;
 use inode_ops::{give, make};
 use nfs3_types::{CreateOk, Fattr, FileType, Handle, Moment, NoMemory, Text};

@@ -10,11 +10,12 @@ ghost use Rattle.procs_object.specs.Performing.{Performs};
 ghost use Rattle.procs_names.specs.Naming as naming;
 ghost use Rattle.procs_names.specs.Naming.{IsRemoval, rmdir_plan, seen};
 
-use crate::checks::{is_directory, is_dot, is_dot_dot, need_alterable, refuse_if};
+use crate::checks::need_alterable;
 use crate::editing::{remove_directory, touched_less};
 use crate::finding::child;
 use crate::removing::{Removal, removal_of};
 use dir_ops::is_empty;
+use fs_rules::checks::{is_directory, is_dot, is_dot_dot, refuse_if};
 use fs_rules::wcc_of;
 use fs_shows::Halt;
 use nfs3_types::{Body, Cred, DirOp, Moment, Status, Text};

@@ -11,8 +11,8 @@ ghost use Rattle.procs_object.specs.Finding.{IsObject, CheckedOn};
 ghost use Rattle.procs_names.specs.Naming as naming;
 ghost use Rattle.procs_names.specs.Naming.{IsOf, child_at, leads_at};
 
-use crate::checks::{is_dot, is_dot_dot};
 use dir_ops::look_up;
+use fs_rules::checks::{is_dot, is_dot_dot};
 use fs_shows::Halt;
 use nfs3_types::Status;
 use pairs::{At, Pairs};

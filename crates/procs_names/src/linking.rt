@@ -13,18 +13,18 @@ ghost use Rattle.procs_object.specs.Performing.{Performs};
 ghost use Rattle.procs_names.specs.Naming as naming;
 ghost use Rattle.procs_names.specs.Naming.{IsLinking, linking_of as linking_as, seen};
 
-use crate::checks::{
-    is_directory, is_dots, is_snapshots_name, need, need_directory, need_good_name, need_search,
-    refuse_if,
-};
+use crate::checks::{need_directory, need_search};
 use crate::editing::{add_link, linked_more, touched};
 use dir_ops::look_up;
+use fs_rules::checks::{
+    is_directory, is_dots, is_live, is_snapshots_name, need, need_good_name, refuse_if,
+};
 use fs_rules::limits::{MOST_LINKS, MOST_NUMBERS};
 use fs_rules::{Inode, LinkPlan, Place, may_write, wcc_of};
 use fs_shows::Halt;
 use nfs3_types::{Body, Cred, Fattr, FileType, LinkArgs, LinkOk, Moment, Status, Text};
 use pairs::{At, Pairs};
-use procs_object::{Found, is_live, see};
+use procs_object::{Found, see};
 use std::alloc::Global;
 
 /// What LINK is going to do, the kind of its file, and the attributes before of the file and of the directory.

@@ -11,9 +11,10 @@ ghost use Rattle.procs_object.specs.Performing.{Performs};
 ghost use Rattle.procs_names.specs.Naming as naming;
 ghost use Rattle.procs_names.specs.Naming.{IsOutside, IsTold, found_body, seen};
 
-use crate::checks::{is_snapshots_name, need_directory, need_good_name, need_search};
+use crate::checks::{need_directory, need_search};
 use crate::finding::named;
 use fs_rules::Place;
+use fs_rules::checks::{is_snapshots_name, need_good_name};
 use fs_shows::Halt;
 use nfs3_types::{Body, Cred, DirOp, Handle, LookupOk, NoMemory, Status, Text};
 use pair_types::PairFault;

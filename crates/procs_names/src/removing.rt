@@ -10,9 +10,10 @@ ghost use Rattle.procs_object.specs.Performing.{Performs};
 ghost use Rattle.procs_names.specs.Naming as naming;
 ghost use Rattle.procs_names.specs.Naming.{IsRemoval, removal_of as removal_as, seen};
 
-use crate::checks::{is_directory, is_dots, need_alterable, refuse_if};
+use crate::checks::need_alterable;
 use crate::editing::{remove_file, touched};
 use crate::finding::child;
+use fs_rules::checks::{is_directory, is_dots, refuse_if};
 use fs_rules::{RemovePlan, wcc_of};
 use fs_shows::Halt;
 use nfs3_types::{Body, Cred, DirOp, Fattr, Moment, Status, Text};

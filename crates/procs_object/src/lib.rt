@@ -12,6 +12,6 @@ mod setting;
 mod telling;
 
 pub use naming::{find_directory, need_place_for};
-pub use object::{Found, find_child, find_object, is_live, is_of_live, see};
+pub use object::{Found, find_child, find_object, is_of_live, see};
 pub use setting::set_attr;
 pub use telling::{access, fs_info, fs_stat, get_attr, path_conf, read_link};

@@ -7,7 +7,8 @@ ghost use Rattle.fs_rules.specs.Sound.{IsSound};
 ghost use Rattle.pairs.specs.Told.{Goes};
 ghost use Rattle.procs_object.specs.Finding.{IsOfLive, IsObject, IsPlaceFor, CheckedOn};
 
-use crate::object::{Found, is_live, see};
+use crate::object::{Found, see};
+use fs_rules::checks::is_live;
 use fs_rules::name_fault;
 use fs_shows::Halt;
 use nfs3_types::{FileType, Status};

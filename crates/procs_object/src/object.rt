@@ -40,17 +40,6 @@ pub fn is_of_live(handle: &[u8]) -> bool
     }
 }
 
-/// Whether it stands in the live tree.
-pub fn is_live(place: Place) -> bool
-    ensures { result ≡ is_live_place place }
-{
-    match place {
-        Place::Live(_) => true,
-        Place::SnapshotDirectory => false,
-        Place::Kept(_, _) => false,
-    }
-}
-
 /// What a number leads to in the live tree, where this is the number of the file system, or that it leads to nothing.
 #[tactic(none)]
 pub fn find_child<P: Pairs>(

@@ -10,7 +10,8 @@ ghost use Rattle.procs_object.specs.Finding.{IsOfLive};
 ghost use Rattle.procs_object.specs.Performing.{Performs};
 ghost use Rattle.procs_object.specs.Planning.{plan_for};
 
-use crate::object::{Found, is_live, see};
+use crate::object::{Found, see};
+use fs_rules::checks::is_live;
 use fs_rules::{SetAttrPlan, apply_sattr, sattr_fault, wcc_of};
 use fs_shows::Halt;
 use inode_ops::describe;

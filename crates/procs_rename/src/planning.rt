@@ -12,8 +12,9 @@ ghost use Rattle.procs_object.specs.Finding.{IsOfLive, CheckedOn};
 ghost use Rattle.procs_rename.specs.Seeing.{Gathers, AreShort, renaming_by, way_for, room_behind, other_room, plan_by, IsPlanned};
 
 use crate::climbing::climb;
-use crate::seeing::{Seen, find_renaming, is_directory, refuse_if};
+use crate::seeing::{Seen, find_renaming, is_directory};
 use dir_ops::is_empty;
+use fs_rules::checks::refuse_if;
 use fs_rules::limits::{DEEPEST, MOST_LINKS, MOST_NUMBERS};
 use fs_rules::{Climb, Inode, RenamePlan, Replaced};
 use fs_shows::Halt;

@@ -6,9 +6,7 @@ ghost use Rattle.fs_rules.specs.Checks as checks;
 ghost use Rattle.fs_rules.specs.Checks.{Check};
 ghost use Rattle.fs_rules.specs.Limits.{longest_name};
 ghost use Rattle.fs_rules.specs.Names as names;
-ghost use Rattle.fs_rules.specs.Places as places;
 ghost use Rattle.fs_rules.specs.Places.{entry_at};
-ghost use Rattle.fs_rules.specs.Removing as removing;
 ghost use Rattle.fs_rules.specs.Renaming.{Renaming, rename_plan, target_at};
 ghost use Rattle.fs_rules.specs.Tree.{Tree};
 ghost use Rattle.fs_rules.specs.declared.place.Place.TheVariants.{Live as LivePlace};
@@ -19,12 +17,14 @@ ghost use Rattle.procs_rename.specs.Seeing.{Gathers, found_as, behind_ends, then
 ghost use Rattle.procs_rename.specs.Seeing.{IsSeen, IsOpen};
 
 use dir_ops::look_up;
-use fs_rules::{Inode as Kept, Place, may_search, may_write, name_fault};
+use fs_rules::checks::{
+    is_dots, is_live, is_snapshots_name, may_alter, need, need_good_name, refuse_if,
+};
 use fs_shows::Halt;
 use nfs3_types::{Cred, FileType, RenameArgs, Status, Text};
 use pair_types::PairFault;
 use pairs::{At, Pairs};
-use procs_object::{Found, find_child, is_live, see};
+use procs_object::{Found, find_child, see};
 use std::alloc::Global;
 
 /// What both handles lead to.
@@ -50,64 +50,6 @@ pub(crate) struct Seen {
 }
 
 // ---- checks
-
-/// Refuses a call with this status where a condition holds.
-pub(crate) fn refuse_if(condition: bool, status: Status) -> Result<(), Status>
-    ensures { result ≡ checks.refuse_if condition status }
-{
-    if condition { Err(status) } else { Ok(()) }
-}
-
-/// Refuses a call with this status where a condition does not hold.
-fn need(condition: bool, status: Status) -> Result<(), Status>
-    ensures { result ≡ checks.need condition status }
-{
-    refuse_if(!condition, status)
-}
-
-/// An own name: not empty, without NUL and slash, and not too long.
-#[tactic(auto, unfolding(fs_rules::specs::Names::name_fault, fs_rules::specs::Limits::longest_name))]
-fn need_good_name(name: &[u8]) -> Result<(), Status>
-    ensures check { result ≡ checks.need_good_name name.now }
-    ensures short { OnOk result (length name.now ≤ longest_name) }
-{
-    match name_fault(name) {
-        Some(status) => Err(status),
-        None => Ok(()),
-    }
-}
-
-/// The names of a directory in itself and of the directory above.
-fn is_dots(name: &[u8]) -> bool
-    ensures { result ≡ names.is_dots name.now }
-{
-    name == b".".as_slice() || name == b"..".as_slice()
-}
-
-/// Whether this is the live root.
-fn is_live_root(place: Place) -> bool
-    ensures { result ≡ places.is_live_root place }
-{
-    match place {
-        Place::Live(fileid) => fileid == 1,
-        Place::SnapshotDirectory => false,
-        Place::Kept(_, _) => false,
-    }
-}
-
-/// Whether the name leads from here to the directory of snapshots.
-fn is_snapshots_name(place: Place, name: &[u8]) -> bool
-    ensures { result ≡ places.is_snapshots_name place name.now }
-{
-    is_live_root(place) && name == b".snapshot".as_slice()
-}
-
-/// Whether the caller may take names out of a directory and put others in.
-fn may_alter(cred: &Cred, directory: &Kept) -> bool
-    ensures { result ≡ removing.may_alter cred.now directory.now }
-{
-    may_write(cred, directory) && may_search(cred, directory)
-}
 
 /// Whether it is a directory.
 pub(crate) fn is_directory(x: &Found) -> bool
