@@ -13,7 +13,7 @@ use Rattle.fs_shows.specs.declared.halt.Halt.TheVariants.{Refused, Fault}
 use Rattle.fs_shows.specs.Steps.{Edits, Reads, GivesUpOn, EditGivesUp}
 use Rattle.fs_shows.proofs.Doing.{goes-then}
 use Rattle.procs_object.specs.Performing.{Performs}
-use Rattle.procs_object.proofs.Reading.{rises-behind}
+use Rattle.procs_object.proofs.Reading.{rises-behind, reads-then, up-then}
 
 module _ {S W : Type 0} (told : PairsTold S W) where
   -- ---- reads one after another
@@ -22,24 +22,12 @@ module _ {S W : Type 0} (told : PairsTold S W) where
       (given : (t : Tree) → IsSound t → Q t → Given t) where
     -- what was learned before, and what a read behind it learns, of which that is given
     pub gathers : (R : Tree → Type 0) → Reads told mid new Given R → Reads told old new IsSound (λ t. Q t × R t)
-    gathers R then = record {
-      stays = λ w t agrees lies is. then.stays w t agrees (reads.stays w t (goes.agreed w agrees) lies tt) tt;
-      learns = λ w t agrees lies sound.
-          let a = goes.agreed w agrees in
-          let learned = reads.learns w t a lies sound in
-          (learned, then.learns w t agrees (reads.stays w t a lies tt) (given t sound learned));
-    }
+    gathers = reads-then told old mid new IsSound Q Given goes reads given
 
     -- a read behind it gives up
     pub gathers-up : (m : ℕ) → Goes told old mid m → (fault : PairFault) → GivesUpOn told mid new Given fault
         → GivesUpOn told old new IsSound fault
-    gathers-up m before Odd up = λ w t agrees lies sound.
-        let a = goes.agreed w agrees in
-        up w t agrees (reads.stays w t a lies tt) (given t sound (reads.learns w t a lies sound))
-    gathers-up m before HeightFull up = up
-    gathers-up m before (Page fault) (inl lacks) = inl lacks
-    gathers-up m before (Page fault) (inr rose) =
-        inr (rises-behind (told.faults old fault) (told.faults mid fault) (told.faults new fault) (before.faults fault) rose)
+    gathers-up = up-then told old mid new IsSound Q Given goes reads given
 
   -- ---- edits one after another
 

@@ -1,7 +1,7 @@
 -- Where a handle leads, by the first record and the inode that are read.
 use Rattle.std.proofs.Common.{◌≡◌, ◌≢◌, ◌∙◌, ℕ, Bool, true, false, if◌then◌else◌, List, length, refl, sym, ap, subst, Option}
 use Rattle.std.proofs.Common.{Some, None, Ok, Err}
-use Rattle.std.specs.Prelude.{◌==◌, ◌&&◌, option_map}
+use Rattle.std.specs.Prelude.{◌==◌, option_map}
 use Rattle.std.proofs.lemmas.Bool.{ne_eqb, eq-eqb}
 use Rattle.nfs3_types.specs.declared.attributes.Fattr.{Fattr}
 use Rattle.nfs3_types.specs.declared.handle.Handle.{Handle}
@@ -9,10 +9,10 @@ use Rattle.nfs3_types.specs.declared.status.Status.TheVariants.{BadHandle, Stale
 use Rattle.nfs3_types.specs.Handles.{handle_in}
 use Rattle.fs_rules.specs.declared.inode.Inode.{Inode as Kept}
 use Rattle.fs_rules.specs.declared.place.Place.{Place}
-use Rattle.fs_rules.specs.declared.place.Place.TheVariants.{Live, SnapshotDirectory, Kept as KeptPlace}
 use Rattle.fs_rules.specs.Attributes.{is_directory, size_of, attributes_of}
 use Rattle.fs_rules.specs.Checks.{find_object, ◌>>=◌, some_or}
-use Rattle.fs_rules.specs.Places.{Object, object_by, object_at, object_of, leads_to, node_at, place_of, no_snapshot, attributes}
+use Rattle.fs_rules.specs.Places.{Object, object_by, object_at, object_of, leads_to, node_at, place_of, attributes}
+use Rattle.fs_rules.specs.Places.{fileid_at, fsid_at}
 use Rattle.fs_rules.specs.Tree.{Tree, Node}
 use Rattle.fs_keys.specs.declared.inode.Inode.{Inode}
 use Rattle.fs_shows.specs.Nodes.{IsInodeOf}
@@ -85,35 +85,36 @@ module _ (t : Tree) where
   led-there x None led = absurd led
   led-there x (Some p) led = (p, refl, led)
 
-module _ (t : Tree) (id : ℕ) where
-  object-as : (o : Option Node) → node_at t (Live id) ≡ o → object_at t (Live id) ≡ option_map (object_by (Live id)) o
+module _ (t : Tree) (p : Place) where
+  object-as : (o : Option Node) → node_at t p ≡ o → object_at t p ≡ option_map (object_by p) o
   unfolding object_at
-  object-as o is = ap (λ (o : Option Node). option_map (object_by (Live id)) o) is
+  object-as o is = ap (λ (o : Option Node). option_map (object_by p) o) is
 
-  attributes-here : (i : Inode) (n : Node) (fsid : ℕ) → t.fsid ≡ fsid → IsInodeOf i n
-      → attributes t (object_by (Live id) n) ≡ attributes_of fsid id i.head.kept i.head.size
+  attributes-here : (i : Inode) (n : Node) (fsid : ℕ) → fsid_at t p ≡ fsid → IsInodeOf i n
+      → attributes t (object_by p n) ≡ attributes_of fsid (fileid_at p) i.head.kept i.head.size
   unfolding attributes
-  attributes-here i n fsid begins is =
-      attributes-by-inode t.fsid id i n is ∙ ap (λ (f : ℕ). attributes_of f id i.head.kept i.head.size) begins
+  attributes-here i n fsid own is =
+      attributes-by-inode (fsid_at t p) (fileid_at p) i n is
+      ∙ ap (λ (f : ℕ). attributes_of f (fileid_at p) i.head.kept i.head.size) own
 
-  pub led-none : IsFoundAs None (node_at t (Live id)) → IsLed t None (leads_to t (Live id))
+  pub led-none : IsFoundAs None (node_at t p) → IsLed t None (leads_to t p)
   led-none found =
       let P : Option Object → Type 0 = λ o. IsLed t None o in
-      subst P (sym (object-as None (none-of (node_at t (Live id)) found))) tt
+      subst P (sym (object-as None (none-of (node_at t p) found))) tt
 
-  pub led-some : (fsid : ℕ) (i : Inode) (a : Fattr) → t.fsid ≡ fsid → a ≡ attributes_of fsid id i.head.kept i.head.size
-      → IsFoundAs (Some i) (node_at t (Live id))
-      → IsLed t (Some (record { place = Live id; inode = i; attributes = a })) (leads_to t (Live id))
-  led-some fsid i a begins is found =
-      let s = some-of i (node_at t (Live id)) found in
-      let x : Found = record { place = Live id; inode = i; attributes = a } in
+  pub led-some : (fsid : ℕ) (i : Inode) (a : Fattr) → fsid_at t p ≡ fsid
+      → a ≡ attributes_of fsid (fileid_at p) i.head.kept i.head.size → IsFoundAs (Some i) (node_at t p)
+      → IsLed t (Some (record { place = p; inode = i; attributes = a })) (leads_to t p)
+  led-some fsid i a own is found =
+      let s = some-of i (node_at t p) found in
+      let x : Found = record { place = p; inode = i; attributes = a } in
       let P : Option Object → Type 0 = λ o. IsLed t (Some x) o in
       subst P (sym (object-as (Some s.node) s.is)) (record {
         node = s.node;
         there = s.is;
         inode = s.inode;
         is = refl;
-        attributes = attributes-here i s.node fsid begins s.inode ∙ sym is;
+        attributes = attributes-here i s.node fsid own s.inode ∙ sym is;
       })
 
 -- ---- handles
@@ -137,30 +138,21 @@ module _ (t : Tree) (bytes : List ℕ) where
         looked said
         ∙ ap (λ (o : Option Object). some_or o Stale) (object-elsewhere (ne_eqb h.fsid t.fsid (λ same. other (same ∙ begins))))
 
-    place-live : h.snapshot ≡ 0 → place_of h ≡ Live h.fileid
-    unfolding place_of
-    place-live live =
-        ap (λ (b : Bool). if b then Live h.fileid
-        else (if (h.snapshot == no_snapshot) && (h.fileid == 2) then SnapshotDirectory else KeptPlace h.snapshot h.fileid))
-        (eq-eqb h.snapshot 0 live)
-
-    object-here : (h.fsid == t.fsid) ≡ true → h.snapshot ≡ 0 → object_of t h ≡ leads_to t (Live h.fileid)
+    object-here : (h.fsid == t.fsid) ≡ true → object_of t h ≡ leads_to t (place_of h)
     unfolding object_of
-    object-here own live =
-        ap (λ (b : Bool). if b then object_at t (place_of h) else None) own
-        ∙ ap (λ (p : Place). object_at t p) (place-live live)
+    object-here own = ap (λ (b : Bool). if b then object_at t (place_of h) else None) own
 
-    module _ (said : handle_in bytes ≡ Some h) (live : h.snapshot ≡ 0) (own : h.fsid ≡ t.fsid) where
-      found-as : (o : Option Object) → leads_to t (Live h.fileid) ≡ o → find_object t bytes ≡ some_or o Stale
+    module _ (said : handle_in bytes ≡ Some h) (own : h.fsid ≡ t.fsid) where
+      found-as : (o : Option Object) → leads_to t (place_of h) ≡ o → find_object t bytes ≡ some_or o Stale
       found-as o is =
           looked said
-          ∙ ap (λ (o : Option Object). some_or o Stale) (object-here (eq-eqb h.fsid t.fsid own) live ∙ is)
+          ∙ ap (λ (o : Option Object). some_or o Stale) (object-here (eq-eqb h.fsid t.fsid own) ∙ is)
 
-      pub not-there : IsLed t None (leads_to t (Live h.fileid)) → find_object t bytes ≡ Err Stale
-      not-there led = found-as None (led-nowhere t (leads_to t (Live h.fileid)) led)
+      pub not-there : IsLed t None (leads_to t (place_of h)) → find_object t bytes ≡ Err Stale
+      not-there led = found-as None (led-nowhere t (leads_to t (place_of h)) led)
 
-      pub there : (x : Found) → IsLed t (Some x) (leads_to t (Live h.fileid))
+      pub there : (x : Found) → IsLed t (Some x) (leads_to t (place_of h))
           → (o : Object) × (find_object t bytes ≡ Ok o) × IsObject t x o
       there x led =
-          let p = led-there t x (leads_to t (Live h.fileid)) led in
+          let p = led-there t x (leads_to t (place_of h)) led in
           (p.0, found-as (Some p.0) p.1, p.2)

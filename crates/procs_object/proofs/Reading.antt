@@ -31,6 +31,36 @@ module _ {S W : Type 0} (told : PairsTold S W) where
     learns = λ w t agrees lies given. says t given (reads.learns w t agrees lies (less t given));
   }
 
+  -- no tree says what was learned
+  pub odd-by : (old new : S) (Given Q : Tree → Type 0) → ((t : Tree) → Given t → Q t → ⊥) → Reads told old new Given Q
+      → GivesUpOn told old new Given Odd
+  odd-by old new Given Q never reads = λ w t agrees lies given. never t given (reads.learns w t agrees lies given)
+
+  -- ---- reads one after another
+
+  module _ (old mid new : S) (Given Q Next : Tree → Type 0) (goes : Goes told mid new 0) (reads : Reads told old mid Given Q)
+      (given : (t : Tree) → Given t → Q t → Next t) where
+    -- what was learned before, and what a read behind it learns, of which that is given
+    pub reads-then : (R : Tree → Type 0) → Reads told mid new Next R → Reads told old new Given (λ t. Q t × R t)
+    reads-then R then = record {
+      stays = λ w t agrees lies is. then.stays w t agrees (reads.stays w t (goes.agreed w agrees) lies tt) tt;
+      learns = λ w t agrees lies is.
+          let a = goes.agreed w agrees in
+          let learned = reads.learns w t a lies is in
+          (learned, then.learns w t agrees (reads.stays w t a lies tt) (given t is learned));
+    }
+
+    -- a read behind it gives up
+    pub up-then : (m : ℕ) → Goes told old mid m → (fault : PairFault) → GivesUpOn told mid new Next fault
+        → GivesUpOn told old new Given fault
+    up-then m before Odd up = λ w t agrees lies is.
+        let a = goes.agreed w agrees in
+        up w t agrees (reads.stays w t a lies tt) (given t is (reads.learns w t a lies is))
+    up-then m before HeightFull up = up
+    up-then m before (Page fault) (inl lacks) = inl lacks
+    up-then m before (Page fault) (inr rose) =
+        inr (rises-behind (told.faults old fault) (told.faults mid fault) (told.faults new fault) (before.faults fault) rose)
+
   -- the first record was read, and then a call by it gave up
   pub begins-up : (old mid new : S) (row : First) → Goes told old mid 0 → Goes told mid new 0
       → Reads told old mid (λ t. ⊤) (λ t. first_of t ≡ row) → (fault : PairFault) → GivesUpOn told mid new (Begins row) fault

@@ -1,7 +1,9 @@
 -- What a handle leads to, as records tell it.
-use Rattle.std.specs.Prelude.{ℕ, ◌≡◌, ◌≤◌, ⊤, true, List, length, Option, Some, None, Result, Ok, Err, IfSome}
+use Rattle.std.specs.Prelude.{ℕ, ◌≡◌, ◌≤◌, ⊤, true, List, [], length, Option, Some, None, Result, Ok, Err, IfSome}
 use Rattle.nfs3_types.specs.Handles.{handle_in}
-use Rattle.fs_rules.specs.Attributes.{is_directory}
+use Rattle.fs_rules.specs.declared.inode.Inode.{Inode as Kept}
+use Rattle.fs_rules.specs.declared.place.Place.TheVariants.{SnapshotDirectory}
+use Rattle.fs_rules.specs.Attributes.{is_directory, attributes_of}
 use Rattle.fs_rules.specs.Checks.{Check, is_live}
 use Rattle.fs_rules.specs.Limits.{longest_name}
 use Rattle.fs_rules.specs.Places.{Object, object_by, node_at, attributes}
@@ -33,7 +35,15 @@ pub record IsObject (t : Tree) (x : Found) (o : Object) : Type 0 where
   pub is : o ≡ object_by x.place node
   pub attributes : attributes t o ≡ x.attributes
 
--- a number leads to what was found, or to nothing
+-- the directory `.snapshot`, where this is its inode
+abbrev pub directory_found : ℕ → Kept → Found
+directory_found fsid kept = record {
+  place = SnapshotDirectory;
+  inode = record { head = record { kept = kept; size = 4096; floor = 0 }; target = [] };
+  attributes = attributes_of fsid 2 kept 4096;
+}
+
+-- a place leads to what was found, or to nothing
 abbrev pub IsLed : Tree → Option Found → Option Object → Type 0
 IsLed t None None = ⊤
 IsLed t None (Some o) = ⊥

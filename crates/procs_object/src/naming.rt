@@ -5,7 +5,7 @@ ghost use Rattle.fs_rules.specs.Checks.{find_directory as directory_found, need_
 ghost use Rattle.fs_rules.specs.Places.{Object};
 ghost use Rattle.fs_rules.specs.Sound.{IsSound};
 ghost use Rattle.pairs.specs.Told.{Goes};
-ghost use Rattle.procs_object.specs.Finding.{IsOfLive, IsObject, IsPlaceFor, CheckedOn};
+ghost use Rattle.procs_object.specs.Finding.{IsObject, IsPlaceFor, CheckedOn};
 
 use crate::object::{Found, see};
 use fs_rules::checks::is_live;
@@ -42,7 +42,6 @@ pub fn find_directory<P: Pairs>(
     handle: &[u8],
     name: &[u8],
 ) -> Result<Found, Halt>
-    requires { IsOfLive handle.now }
     ensures goes { Goes P.told pairs.old pairs.new 0 }
     ensures check { CheckedOn P.told pairs.old pairs.new IsSound IsObject
         (λ t. directory_found t (record { directory = handle.now; name = name.now })) result }

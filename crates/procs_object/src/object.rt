@@ -1,7 +1,7 @@
 //! What handles lead to, and file numbers.
 
-ghost use Rattle.std.specs.Prelude.{◌≡◌, ◌↔◌, true, IsTrue, IfSome, IfOk, IfErr};
-ghost use Rattle.fs_rules.specs.Checks.{find_object as object_found, is_live as is_live_place};
+ghost use Rattle.std.specs.Prelude.{◌≡◌, ◌↔◌, IsTrue, IfSome, IfOk, IfErr};
+ghost use Rattle.fs_rules.specs.Checks.{find_object as object_found};
 ghost use Rattle.fs_rules.specs.Places.{leads_to};
 ghost use Rattle.fs_rules.specs.Tree.{Tree};
 ghost use Rattle.fs_rules.specs.declared.place.Place.TheVariants.{Live as LivePlace};
@@ -10,6 +10,7 @@ ghost use Rattle.pairs.specs.Told.{Goes};
 ghost use Rattle.fs_shows.specs.Steps.{Reads, GivesUpOn};
 ghost use Rattle.procs_object.specs.Finding.{IsOfLive, Begins, IsObject, IsLed, CheckedOn};
 
+use crate::snapshot::{find_kept, find_snapshots};
 use fs_keys::{First, Inode};
 use fs_rules::Place;
 use fs_shows::Halt;
@@ -69,6 +70,30 @@ pub fn find_child<P: Pairs>(
     }))
 }
 
+/// What stands at a place, where this is the first record, or that nothing does.
+#[tactic(none)]
+pub fn find_place<P: Pairs>(
+    alloc: Global,
+    pairs: &mut P,
+    begins: &First,
+    place: Place,
+) -> Result<Option<Found>, PairFault>
+    ensures goes { Goes P.told pairs.old pairs.new 0 }
+    ensures ok { IfOk result (λ found. Reads P.told pairs.old pairs.new (Begins begins.now)
+        (λ t. IsLed t found (leads_to t place))) }
+    ensures place { IfOk result (λ found. IfSome found (λ x. x.place ≡ place)) }
+    ensures fault { IfErr result (GivesUpOn P.told pairs.old pairs.new (Begins begins.now)) }
+{
+    match place {
+        Place::Live(fileid) => find_child(alloc, pairs, begins.fsid, fileid),
+        Place::SnapshotDirectory => match find_snapshots(alloc, pairs, begins) {
+            Ok(x) => Ok(Some(x)),
+            Err(fault) => Err(fault),
+        },
+        Place::Kept(number, fileid) => find_kept(alloc, pairs, begins, number, fileid),
+    }
+}
+
 /// What a handle leads to, where this is the first record: BADHANDLE where it is not 24 bytes long, and STALE where it names
 /// nothing.
 #[tactic(none)]
@@ -78,11 +103,9 @@ pub fn find_object<P: Pairs>(
     begins: &First,
     handle: &[u8],
 ) -> Result<Found, Halt>
-    requires { IsOfLive handle.now }
     ensures goes { Goes P.told pairs.old pairs.new 0 }
     ensures check { CheckedOn P.told pairs.old pairs.new (Begins begins.now) IsObject
         (λ t. object_found t handle.now) result }
-    ensures live { IfOk result (λ x. is_live_place x.place ≡ true) }
 {
     let Some(h) = Handle::of(handle) else {
         return Err(Halt::Refused(Status::BadHandle));
@@ -90,7 +113,7 @@ pub fn find_object<P: Pairs>(
     if h.fsid != begins.fsid {
         return Err(Halt::Refused(Status::Stale));
     }
-    let found = match find_child(alloc, pairs, h.fsid, h.fileid) {
+    let found = match find_place(alloc, pairs, begins, Place::of(&h)) {
         Ok(found) => found,
         Err(fault) => return Err(Halt::Fault(fault)),
     };
@@ -103,10 +126,8 @@ pub fn find_object<P: Pairs>(
 /// What a handle leads to, by the first record that lies below.
 #[tactic(none)]
 pub fn see<P: Pairs>(alloc: Global, pairs: &mut P, handle: &[u8]) -> Result<Found, Halt>
-    requires { IsOfLive handle.now }
     ensures goes { Goes P.told pairs.old pairs.new 0 }
     ensures check { CheckedOn P.told pairs.old pairs.new IsSound IsObject (λ t. object_found t handle.now) result }
-    ensures live { IfOk result (λ x. is_live_place x.place ≡ true) }
 {
     let begins = match first(alloc, pairs) {
         Ok(begins) => begins,

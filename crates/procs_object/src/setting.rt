@@ -6,7 +6,6 @@ ghost use Rattle.fs_rules.specs.Checks.{is_live as is_live_place};
 ghost use Rattle.fs_rules.specs.Places.{Object, fileid_at};
 ghost use Rattle.fs_rules.specs.Setting as table;
 ghost use Rattle.fs_rules.specs.Setting.{is_same};
-ghost use Rattle.procs_object.specs.Finding.{IsOfLive};
 ghost use Rattle.procs_object.specs.Performing.{Performs};
 ghost use Rattle.procs_object.specs.Planning.{plan_for};
 
@@ -70,8 +69,7 @@ pub fn set_attr<P: Pairs>(
     a: &SetAttrArgs<Text>,
     now: Moment,
 ) -> Result<Body, Halt>
-    requires live { IsOfLive a.now.object }
-    requires no_size { a.now.attributes.size ≡ None }
+    requires { a.now.attributes.size ≡ None }
     ensures { Performs P.told pairs.old pairs.new 1 (λ t. table.set_attr t cred.now a.now now) result }
 {
     let o = match see(alloc, pairs, a.object.as_slice()) {

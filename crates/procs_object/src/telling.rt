@@ -5,7 +5,6 @@ ghost use Rattle.fs_rules.specs.Attributes.{is_link as is_link_kind};
 ghost use Rattle.fs_rules.specs.Checks.{told as tells};
 ghost use Rattle.fs_rules.specs.Places.{Object};
 ghost use Rattle.fs_rules.specs.Telling as table;
-ghost use Rattle.procs_object.specs.Finding.{IsOfLive};
 ghost use Rattle.procs_object.specs.Performing.{Performs};
 
 use crate::object::see;
@@ -30,7 +29,6 @@ const PROPERTIES: u32 = 27;
 /// GETATTR.
 #[tactic(none)]
 pub fn get_attr<P: Pairs>(alloc: Global, pairs: &mut P, handle: &[u8]) -> Result<Body, Halt>
-    requires { IsOfLive handle.now }
     ensures { Performs P.told pairs.old pairs.new 0 (λ t. tells t (table.get_attr t handle.now)) result }
 {
     match see(alloc, pairs, handle) {
@@ -47,7 +45,6 @@ pub fn access<P: Pairs>(
     cred: &Cred,
     a: &AccessArgs<Text>,
 ) -> Result<Body, Halt>
-    requires { IsOfLive a.now.object }
     ensures { Performs P.told pairs.old pairs.new 0 (λ t. tells t (table.access t cred.now a.now)) result }
 {
     match see(alloc, pairs, a.object.as_slice()) {
@@ -62,7 +59,6 @@ pub fn access<P: Pairs>(
 /// READLINK.
 #[tactic(none)]
 pub fn read_link<P: Pairs>(alloc: Global, pairs: &mut P, handle: &[u8]) -> Result<Body, Halt>
-    requires { IsOfLive handle.now }
     ensures { Performs P.told pairs.old pairs.new 0 (λ t. tells t (table.read_link t handle.now)) result }
 {
     let o = match see(alloc, pairs, handle) {
@@ -82,7 +78,6 @@ pub fn read_link<P: Pairs>(alloc: Global, pairs: &mut P, handle: &[u8]) -> Resul
 /// FSSTAT.
 #[tactic(none)]
 pub fn fs_stat<P: Pairs>(alloc: Global, pairs: &mut P, handle: &[u8]) -> Result<Body, Halt>
-    requires { IsOfLive handle.now }
     ensures { Performs P.told pairs.old pairs.new 0 (λ t. tells t (table.fs_stat t handle.now)) result }
 {
     match see(alloc, pairs, handle) {
@@ -103,7 +98,6 @@ pub fn fs_stat<P: Pairs>(alloc: Global, pairs: &mut P, handle: &[u8]) -> Result<
 /// FSINFO.
 #[tactic(none)]
 pub fn fs_info<P: Pairs>(alloc: Global, pairs: &mut P, handle: &[u8]) -> Result<Body, Halt>
-    requires { IsOfLive handle.now }
     ensures { Performs P.told pairs.old pairs.new 0 (λ t. tells t (table.fs_info t handle.now)) result }
 {
     match see(alloc, pairs, handle) {
@@ -130,7 +124,6 @@ pub fn fs_info<P: Pairs>(alloc: Global, pairs: &mut P, handle: &[u8]) -> Result<
 /// PATHCONF.
 #[tactic(none)]
 pub fn path_conf<P: Pairs>(alloc: Global, pairs: &mut P, handle: &[u8]) -> Result<Body, Halt>
-    requires { IsOfLive handle.now }
     ensures { Performs P.told pairs.old pairs.new 0 (λ t. tells t (table.path_conf t handle.now)) result }
 {
     match see(alloc, pairs, handle) {

@@ -9,9 +9,6 @@ use Rattle.procs_object.proofs.Reading.{reads-more}
 use Rattle.procs_object.proofs.Told.{object-place, object-inode}
 use Rattle.procs_object.proofs.naming.find_directory.Goals as goal
 
-pub see-requires : goal.see-requires
-see-requires g c = c.requires
-
 pub returns-in-Err-clause-goes : goal.returns-in-Err-clause-goes
 returns-in-Err-clause-goes g c = c.see.ensures.goes
 

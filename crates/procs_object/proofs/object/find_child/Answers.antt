@@ -32,7 +32,7 @@ returns-in_default-clause-ok g c =
     reads-more g.P.Pairs.told c.args.pairs.now c.load.new.pairs (λ (t : Tree). t.fsid ≡ c.args.fsid) (IsKept Live)
     (λ t. IsFoundAs c.in-Ok.found (node_at t (LivePlace c.args.fileid)))
     (λ t. IsLed t None (leads_to t (LivePlace c.args.fileid))) (λ t given. tt)
-    (λ t given is. led-none t c.args.fileid (found-is t c.args.fileid c.in-Ok.found None c.in_default.is is))
+    (λ t given is. led-none t (LivePlace c.args.fileid) (found-is t c.args.fileid c.in-Ok.found None c.in_default.is is))
     c.in-Ok.ensures.ok
 
 pub returns-clause-goes : goal.returns-clause-goes
@@ -48,7 +48,7 @@ returns-clause-ok g c =
       attributes = c.attributes-attributes.result;
     })) (leads_to t (LivePlace c.args.fileid)))
     (λ t given. tt)
-    (λ t begins is. led-some t c.args.fileid c.args.fsid c.in-Some.inode c.attributes-attributes.result begins
+    (λ t begins is. led-some t (LivePlace c.args.fileid) c.args.fsid c.in-Some.inode c.attributes-attributes.result begins
     c.attributes-attributes.ensures (found-is t c.args.fileid c.in-Ok.found (Some c.in-Some.inode) c.in-Some.is is))
     c.in-Ok.ensures.ok
 

@@ -15,9 +15,6 @@ returns-in-Err-clause-check g c =
     up-given g.P.Pairs.told c.args.pairs.now c.first.new.pairs IsSound (λ t. ⊤)
     (λ t sound. tt) c.in-Err.fault c.in-Err.ensures.fault
 
-pub find_object-requires : goal.find_object-requires
-find_object-requires g c = c.requires
-
 pub returns-clause-goes : goal.returns-clause-goes
 returns-clause-goes g c =
     goes-then g.P.Pairs.told c.args.pairs.now c.first.new.pairs c.find_object.new.pairs 0 0 c.first.ensures.goes
@@ -28,6 +25,3 @@ returns-clause-check g c =
     begins-then g.P.Pairs.told c.args.pairs.now c.first.new.pairs c.find_object.new.pairs c.in-Ok.begins IsObject
     (λ t. find_object t c.args.handle.now) c.find_object.result c.first.ensures.goes c.find_object.ensures.goes c.in-Ok.ensures.ok
     c.find_object.ensures.check
-
-pub returns-clause-live : goal.returns-clause-live
-returns-clause-live g c = c.find_object.ensures.live

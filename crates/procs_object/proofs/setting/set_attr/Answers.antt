@@ -1,5 +1,5 @@
 -- The plan is made from what the handle leads to, done by one edit, and told.
-use Rattle.std.proofs.Common.{List, ℕ, Some, Ok, Err, refl, sym, ap, subst, arith}
+use Rattle.std.proofs.Common.{List, ℕ, Some, Ok, Err, refl, ap, subst, arith}
 use Rattle.nfs3_types.specs.declared.body.Body.TheVariants.{SetAttr}
 use Rattle.fs_rules.specs.declared.plans.SetAttrPlan.{SetAttrPlan}
 use Rattle.fs_rules.specs.Attributes.{wcc_of}
@@ -9,17 +9,14 @@ use Rattle.fs_rules.specs.Setting.{set_attr}
 use Rattle.fs_rules.specs.Sound.{IsSound}
 use Rattle.fs_shows.specs.Views.{IsThere}
 use Rattle.fs_shows.proofs.Doing.{goes-most}
-use Rattle.procs_object.specs.Finding.{IsOfLive, IsObject, CheckedOn}
+use Rattle.procs_object.specs.Finding.{IsObject, CheckedOn}
 use Rattle.procs_object.proofs.Ending.{halts, refuses, edits, edit-halts}
 use Rattle.procs_object.proofs.Told.{object-place, object-inode}
 use Rattle.procs_object.proofs.Set.{set-halted, set-refused, set-there, set-done}
 use Rattle.procs_object.proofs.setting.set_attr.Goals as goal
 
-pub see-requires : goal.see-requires
-see-requires g c = subst IsOfLive (sym c.as_slice.ensures) c.requires.live
-
 pub plan_of-requires : goal.plan_of-requires
-plan_of-requires g c = c.requires.no_size
+plan_of-requires g c = c.requires
 
 pub returns-in-Err : goal.returns-in-Err
 returns-in-Err g c =
@@ -53,9 +50,9 @@ returns-in-Ok-describe g c =
     (λ t. set_attr t c.args.cred.now c.args.a.now c.args.now) 0 1 c.see.ensures.goes c.describe.ensures.goes c.in-Ok.o
     (subst P c.as_slice.ensures c.in-Ok.ensures.check) (IsThere p.fileid) (SetAttr c.wcc_of.result)
     (edit_node p.fileid (set_attributes p.attributes))
-    (λ t o found is. set-there t c.args.cred.now c.args.a.now c.args.now c.in-Ok.o o found is p c.requires.no_size
+    (λ t o found is. set-there t c.args.cred.now c.args.a.now c.args.now c.in-Ok.o o found is p c.requires
     c.in-Ok-plan_of.ensures.live id-is at-is)
-    (λ t o found is. set-done t c.args.cred.now c.args.a.now c.args.now c.in-Ok.o o found is p c.requires.no_size
+    (λ t o found is. set-done t c.args.cred.now c.args.a.now c.args.now c.in-Ok.o o found is p c.requires
     c.in-Ok-plan_of.ensures.live id-is at-is c.wcc_of.result
     (c.in-Ok-plan_of.ensures.check o (object-place t c.in-Ok.o o is) (object-inode t c.in-Ok.o o is)) c.wcc_of.ensures)
     c.in-Ok-describe.ensures.ok
@@ -71,9 +68,9 @@ returns g c =
     (λ t. set_attr t c.args.cred.now c.args.a.now c.args.now) 0 1 c.see.ensures.goes c.describe.ensures.goes c.in-Ok.o
     (subst P c.as_slice.ensures c.in-Ok.ensures.check) (IsThere p.fileid)
     (SetAttr (wcc_of (Some c.in-Ok.o.attributes) (Some p.attributes))) (edit_node p.fileid (set_attributes p.attributes))
-    (λ t o found is. set-there t c.args.cred.now c.args.a.now c.args.now c.in-Ok.o o found is p c.requires.no_size
+    (λ t o found is. set-there t c.args.cred.now c.args.a.now c.args.now c.in-Ok.o o found is p c.requires
     c.in-Ok-plan_of.ensures.live id-is at-is)
-    (λ t o found is. set-done t c.args.cred.now c.args.a.now c.args.now c.in-Ok.o o found is p c.requires.no_size
+    (λ t o found is. set-done t c.args.cred.now c.args.a.now c.args.now c.in-Ok.o o found is p c.requires
     c.in-Ok-plan_of.ensures.live id-is at-is (wcc_of (Some c.in-Ok.o.attributes) (Some p.attributes))
     (c.in-Ok-plan_of.ensures.check o (object-place t c.in-Ok.o o is) (object-inode t c.in-Ok.o o is)) refl)
     (omega arith) c.in-Err-describe.fault c.in-Err-describe.ensures.fault

@@ -1,16 +1,13 @@
 -- What the handle leads to is told, with what of it is allowed.
-use Rattle.std.proofs.Common.{List, ℕ, Ok, Err, sym, subst}
+use Rattle.std.proofs.Common.{List, ℕ, Ok, Err, subst}
 use Rattle.std.specs.Prelude.{bit_and}
 use Rattle.fs_rules.specs.Checks.{find_object, told}
 use Rattle.fs_rules.specs.Sound.{IsSound}
 use Rattle.fs_rules.specs.Telling.{access}
-use Rattle.procs_object.specs.Finding.{IsOfLive, IsObject, CheckedOn}
+use Rattle.procs_object.specs.Finding.{IsObject, CheckedOn}
 use Rattle.procs_object.proofs.Ending.{halts, tells}
 use Rattle.procs_object.proofs.Told.{access-refused, access-told, access-body, object-place, object-inode}
 use Rattle.procs_object.proofs.telling.access.Goals as goal
-
-pub see-requires : goal.see-requires
-see-requires g c = subst IsOfLive (sym c.as_slice.ensures) c.requires
 
 pub returns-in-Ok : goal.returns-in-Ok
 returns-in-Ok g c =

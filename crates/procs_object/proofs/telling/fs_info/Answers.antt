@@ -5,9 +5,6 @@ use Rattle.procs_object.proofs.Ending.{halts, tells}
 use Rattle.procs_object.proofs.Told.{fs_info-refused, fs_info-told, info-body}
 use Rattle.procs_object.proofs.telling.fs_info.Goals as goal
 
-pub see-requires : goal.see-requires
-see-requires g c = c.requires
-
 pub returns-in-Ok : goal.returns-in-Ok
 returns-in-Ok g c =
     tells g.P.Pairs.told c.args.pairs.now c.see.new.pairs (λ t. find_object t c.args.handle.now)

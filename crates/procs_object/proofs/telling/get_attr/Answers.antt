@@ -6,9 +6,6 @@ use Rattle.procs_object.proofs.Ending.{halts, tells}
 use Rattle.procs_object.proofs.Told.{get_attr-refused, get_attr-told}
 use Rattle.procs_object.proofs.telling.get_attr.Goals as goal
 
-pub see-requires : goal.see-requires
-see-requires g c = c.requires
-
 pub returns-in-Ok : goal.returns-in-Ok
 returns-in-Ok g c =
     tells g.P.Pairs.told c.args.pairs.now c.see.new.pairs (λ t. find_object t c.args.handle.now)

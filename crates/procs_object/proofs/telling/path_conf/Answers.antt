@@ -6,9 +6,6 @@ use Rattle.procs_object.proofs.Ending.{halts, tells}
 use Rattle.procs_object.proofs.Told.{path_conf-refused, path_conf-told, conf-body}
 use Rattle.procs_object.proofs.telling.path_conf.Goals as goal
 
-pub see-requires : goal.see-requires
-see-requires g c = c.requires
-
 pub overflow_cast-result : goal.overflow_cast-result
 overflow_cast-result g c = Fits-lit tt
 

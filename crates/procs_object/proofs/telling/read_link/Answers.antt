@@ -7,9 +7,6 @@ use Rattle.procs_object.proofs.Ending.{halts, refuses, tells}
 use Rattle.procs_object.proofs.Told.{read_link-refused, read_link-told, read_link-inval, link-body}
 use Rattle.procs_object.proofs.telling.read_link.Goals as goal
 
-pub see-requires : goal.see-requires
-see-requires g c = c.requires
-
 pub returns-in-Err : goal.returns-in-Err
 returns-in-Err g c =
     halts g.P.Pairs.told c.args.pairs.now c.see.new.pairs (λ t. find_object t c.args.handle.now)
