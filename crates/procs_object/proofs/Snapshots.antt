@@ -10,13 +10,14 @@ use Rattle.fs_rules.specs.declared.place.Place.TheVariants.{SnapshotDirectory, K
 use Rattle.fs_rules.specs.declared.times.Times.{Times}
 use Rattle.fs_rules.specs.Attributes.{attributes_of, size_of}
 use Rattle.fs_rules.specs.Limits.{last_epoch, most_snapshots}
-use Rattle.fs_rules.specs.Places.{has_number, leads_to, node_at, node_in, snapshot_directory, snapshot_entry, snapshot_numbered}
-use Rattle.fs_rules.specs.Sound.{Rise}
-use Rattle.fs_rules.specs.Tree.{Snapshot, Tree, root_inode}
+use Rattle.fs_rules.specs.Places.{Object, has_number, leads_to, node_at, node_in, snapshot_directory, snapshot_entry, snapshot_numbered}
+use Rattle.fs_rules.specs.Sound.{IsSound, Rise}
+use Rattle.fs_rules.specs.Tree.{Node, Snapshot, Tree, root_inode}
 use Rattle.pairs.specs.declared.at.At.TheVariants.{Snap}
 use Rattle.fs_keys.specs.declared.rows.First.{First}
 use Rattle.fs_shows.specs.Views.{IsFoundAs, IsKept}
-use Rattle.procs_object.specs.Finding.{Begins, IsLed, directory_found}
+use Rattle.procs_object.specs.declared.object.Found.{Found}
+use Rattle.procs_object.specs.Finding.{Begins, HasPlace, IsLed, IsObject, directory_found}
 use Rattle.procs_object.proofs.Handles.{led-none, led-some}
 
 -- ---- the directory
@@ -95,3 +96,16 @@ module _ (t : Tree) (number : ℕ) where
         let below = kept-below number 3 (t.epoch + 2) t.snapshots begins.sound.bounds.snapshots.entries.cookies there in
         let fsid : row.fsid ≤ 2 ^ 63 = subst (λ (r : First). r.fsid ≤ 2 ^ 63) begins.first begins.sound.bounds.fsid in
         omega (arith, below, fsid, begins.sound.bounds.epoch)
+
+-- what stands in a snapshot stands in one that is kept
+some-snapshot : (o : Option Snapshot) (id : ℕ) (n : Node) → node_in o id ≡ Some n → IsSome o
+some-snapshot None id n there = absurd (cc)
+some-snapshot (Some s) id n there = refl
+
+pub kept-there : (t : Tree) (number id : ℕ) → HasPlace (KeptPlace number id) t → IsKept (Snap number) t
+unfolding node_at
+kept-there t number id has = some-snapshot (snapshot_numbered t number) id has.node has.there
+
+-- where an object was found, something stands
+pub has-found : (t : Tree) (x : Found) (o : Object) → IsSound t → IsObject t x o → HasPlace x.place t
+has-found t x o sound is = record { sound = sound; node = is.node; there = is.there }

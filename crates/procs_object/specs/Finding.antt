@@ -2,6 +2,7 @@
 use Rattle.std.specs.Prelude.{ℕ, ◌≡◌, ◌≤◌, ⊤, true, List, [], length, Option, Some, None, Result, Ok, Err, IfSome}
 use Rattle.nfs3_types.specs.Handles.{handle_in}
 use Rattle.fs_rules.specs.declared.inode.Inode.{Inode as Kept}
+use Rattle.fs_rules.specs.declared.place.Place.{Place}
 use Rattle.fs_rules.specs.declared.place.Place.TheVariants.{SnapshotDirectory}
 use Rattle.fs_rules.specs.Attributes.{is_directory, attributes_of}
 use Rattle.fs_rules.specs.Checks.{Check, is_live}
@@ -16,6 +17,7 @@ use Rattle.fs_shows.specs.declared.halt.Halt.TheVariants.{Refused, Fault}
 use Rattle.fs_shows.specs.Nodes.{IsInodeOf}
 use Rattle.fs_shows.specs.Shows.{first_of}
 use Rattle.fs_shows.specs.Steps.{Reads, GivesUpOn}
+use Rattle.procs_object.specs.declared.object.Begun.{Begun}
 use Rattle.procs_object.specs.declared.object.Found.{Found}
 
 -- a handle of the live tree, or one that is none of this service's
@@ -34,6 +36,17 @@ pub record IsObject (t : Tree) (x : Found) (o : Object) : Type 0 where
   pub inode : IsInodeOf x.inode node
   pub is : o ≡ object_by x.place node
   pub attributes : attributes t o ≡ x.attributes
+
+-- what was found by the first record is this object of the tree, whose first record it is
+pub record IsBegun (t : Tree) (x : Begun) (o : Object) : Type 0 where
+  pub object : IsObject t x.found o
+  pub first : first_of t ≡ x.begins
+
+-- the tree is sound, and something stands at the place
+pub record HasPlace (place : Place) (t : Tree) : Type 0 where
+  pub sound : IsSound t
+  pub node : Node
+  pub there : node_at t place ≡ Some node
 
 -- the directory `.snapshot`, where this is its inode
 abbrev pub directory_found : ℕ → Kept → Found

@@ -13,7 +13,7 @@ mod setting;
 mod snapshot;
 mod telling;
 
-pub use naming::{find_directory, need_place_for};
-pub use object::{Found, find_child, find_object, find_place, is_of_live, see};
+pub use naming::{above, beside, find_directory, need_place_for};
+pub use object::{Begun, Found, find_child, find_object, find_place, is_of_live, look, see};
 pub use setting::set_attr;
 pub use telling::{access, fs_info, fs_stat, get_attr, path_conf, read_link};

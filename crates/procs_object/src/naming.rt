@@ -2,14 +2,15 @@
 
 ghost use Rattle.std.specs.Prelude.{◌≡◌, IfOk, OnOk};
 ghost use Rattle.fs_rules.specs.Checks.{find_directory as directory_found, need_place_for as place_needed};
-ghost use Rattle.fs_rules.specs.Places.{Object};
+ghost use Rattle.fs_rules.specs.Places.{Object, above as place_above, beside as place_beside};
+ghost use Rattle.fs_rules.specs.declared.name_entry.NameEntry.{NameEntry};
 ghost use Rattle.fs_rules.specs.Sound.{IsSound};
 ghost use Rattle.pairs.specs.Told.{Goes};
 ghost use Rattle.procs_object.specs.Finding.{IsObject, IsPlaceFor, CheckedOn};
 
 use crate::object::{Found, see};
 use fs_rules::checks::is_live;
-use fs_rules::name_fault;
+use fs_rules::{Inode, Place, name_fault};
 use fs_shows::Halt;
 use nfs3_types::{FileType, Status};
 use pairs::Pairs;
@@ -54,5 +55,33 @@ pub fn find_directory<P: Pairs>(
     match need_place_for(&o, name) {
         Ok(()) => Ok(o),
         Err(status) => Err(Halt::Refused(status)),
+    }
+}
+
+/// The directory above one of this inode: the root is above itself, `.snapshot` above a snapshot's root, and the root above it.
+pub fn above(place: Place, i: &Inode) -> Place
+    ensures { result ≡ place_above place i.now }
+{
+    match place {
+        Place::Live(_) => Place::Live(i.parent),
+        Place::SnapshotDirectory => Place::Live(1),
+        Place::Kept(number, fileid) => {
+            if fileid == 1 {
+                Place::SnapshotDirectory
+            } else {
+                Place::Kept(number, i.parent)
+            }
+        }
+    }
+}
+
+/// Where an entry of this number leads: one of `.snapshot` to the snapshot's root.
+pub fn beside(directory: Place, fileid: u64) -> Place
+    ensures { (e : NameEntry) → e.fileid ≡ fileid → place_beside directory e ≡ result }
+{
+    match directory {
+        Place::Live(_) => Place::Live(fileid),
+        Place::SnapshotDirectory => Place::Kept(fileid, 1),
+        Place::Kept(number, _) => Place::Kept(number, fileid),
     }
 }

@@ -8,7 +8,7 @@ ghost use Rattle.fs_rules.specs.declared.place.Place.TheVariants.{Live as LivePl
 ghost use Rattle.fs_rules.specs.Sound.{IsSound};
 ghost use Rattle.pairs.specs.Told.{Goes};
 ghost use Rattle.fs_shows.specs.Steps.{Reads, GivesUpOn};
-ghost use Rattle.procs_object.specs.Finding.{IsOfLive, Begins, IsObject, IsLed, CheckedOn};
+ghost use Rattle.procs_object.specs.Finding.{IsOfLive, Begins, IsBegun, IsObject, IsLed, CheckedOn};
 
 use crate::snapshot::{find_kept, find_snapshots};
 use fs_keys::{First, Inode};
@@ -29,6 +29,15 @@ pub struct Found {
     pub inode: Inode,
     /// Its attributes.
     pub attributes: Fattr,
+}
+
+/// The first record that lies below, and what was found by it.
+#[derive(Drop)]
+pub struct Begun {
+    /// The first record.
+    pub begins: First,
+    /// What was found.
+    pub found: Found,
 }
 
 /// Whether a handle is one of the live tree, or none of this service's.
@@ -134,4 +143,20 @@ pub fn see<P: Pairs>(alloc: Global, pairs: &mut P, handle: &[u8]) -> Result<Foun
         Err(fault) => return Err(Halt::Fault(fault)),
     };
     find_object(alloc, pairs, &begins, handle)
+}
+
+/// What a handle leads to, with the first record that lies below.
+#[tactic(none)]
+pub fn look<P: Pairs>(alloc: Global, pairs: &mut P, handle: &[u8]) -> Result<Begun, Halt>
+    ensures goes { Goes P.told pairs.old pairs.new 0 }
+    ensures check { CheckedOn P.told pairs.old pairs.new IsSound IsBegun (λ t. object_found t handle.now) result }
+{
+    let begins = match first(alloc, pairs) {
+        Ok(begins) => begins,
+        Err(fault) => return Err(Halt::Fault(fault)),
+    };
+    match find_object(alloc, pairs, &begins, handle) {
+        Ok(found) => Ok(Begun { begins, found }),
+        Err(halt) => Err(halt),
+    }
 }
