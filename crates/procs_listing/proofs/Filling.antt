@@ -3,9 +3,8 @@ use Rattle.std.proofs.Common.{◌≡◌, ℕ, ◌+◌, ◌-◌, ◌==◌, ◌<�
 use Rattle.std.proofs.Common.{length, map, append_assoc, Option, Some, None, refl, sym, ◌∙◌, ap, arith}
 use Rattle.std.proofs.lemmas.Bool.{eq-eqb, eqb-true, leb-true}
 use Rattle.std.proofs.lemmas.List.{append-nil, map-append, length-map, length-append}
-use Rattle.nfs3_types.specs.declared.body.DirEntry.{DirEntry}
 use Rattle.pair_types.specs.declared.fault.PairFault.{PairFault}
-use Rattle.pairs.specs.declared.at.At.TheVariants.{Live}
+use Rattle.fs_rules.specs.declared.place.Place.{Place}
 use Rattle.pairs.specs.Told.{PairsTold, Goes}
 use Rattle.fs_rules.specs.Listing.{Listed, behind, fitting}
 use Rattle.fs_rules.specs.Tree.{Tree}
@@ -13,21 +12,22 @@ use Rattle.fs_shows.specs.Steps.{Reads, GivesUpOn}
 use Rattle.fs_shows.proofs.Doing.{goes-none, goes-then}
 use Rattle.fs_shows.proofs.Passing.{reads_both, gives_up_behind}
 use Rattle.procs_object.proofs.Reading.{reads-none, reads-more}
-use Rattle.dir_ops.specs.Listing.{IsListed}
+use Rattle.procs_object.specs.Finding.{HasPlace}
+use Rattle.procs_listing.specs.declared.entries.Entry.{Entry}
 use Rattle.procs_listing.specs.Entries.{lists, listed_as, IsNextOf, IsTold}
 
 -- ---- over a listing
 
 module _ (size : Listed → ℕ) (room cookie : ℕ) (entries : List Listed) where
   -- so far these were told: behind the last of them, and in the room that is left, it goes on
-  pub record GoesOn (told : List DirEntry) (last left : ℕ) : Type 0 where
+  pub record GoesOn (told : List Entry) (last left : ℕ) : Type 0 where
     pub rest : behind cookie entries ≡ map listed_as told ++ behind last entries
     pub fits : fitting size room (behind cookie entries) ≡ map listed_as told ++ fitting size left (behind last entries)
 
   goes-begin : GoesOn [] cookie room
   goes-begin = record { rest = refl; fits = refl }
 
-  module _ (told : List DirEntry) (last left : ℕ) (goes : GoesOn told last left) where
+  module _ (told : List Entry) (last left : ℕ) (goes : GoesOn told last left) where
     fitting-none : behind last entries ≡ [] → fitting size left (behind last entries) ≡ []
     unfolding fitting
     fitting-none none = ap (fitting size left) none
@@ -40,7 +40,7 @@ module _ (size : Listed → ℕ) (room cookie : ℕ) (entries : List Listed) whe
           ∙ length-map told listed_as));
     }
 
-    module _ (e : DirEntry) (more : behind last entries ≡ listed_as e ∷ behind e.cookie entries) where
+    module _ (e : Entry) (more : behind last entries ≡ listed_as e ∷ behind e.cookie entries) where
       fitting-more : (u : Bool) → nat_le (size (listed_as e)) left ≡ u
           → fitting size left (behind last entries)
           ≡ (if u then listed_as e ∷ fitting size (left - size (listed_as e)) (behind e.cookie entries) else [])
@@ -87,69 +87,69 @@ module _ (size : Listed → ℕ) (room cookie : ℕ) (entries : List Listed) whe
 
 -- ---- of the trees that may lie below
 
-module _ {S W : Type 0} (told : PairsTold S W) (directory parent : ℕ) (size : Listed → ℕ) (room cookie : ℕ) where
+module _ {S W : Type 0} (told : PairsTold S W) (directory above : Place) (size : Listed → ℕ) (room cookie : ℕ) where
   -- so far these were read
-  pub record HasRead (old now : S) (entries : List DirEntry) (last left : ℕ) : Type 0 where
+  pub record HasRead (old now : S) (entries : List Entry) (last left : ℕ) : Type 0 where
     pub goes : Goes told old now 0
-    pub reads : Reads told old now (IsListed Live directory)
-        (λ t. GoesOn size room cookie (lists t directory parent) entries last left)
+    pub reads : Reads told old now (HasPlace directory)
+        (λ t. GoesOn size room cookie (lists t directory above) entries last left)
 
   pub read-none : (s : S) → HasRead s s [] cookie room
   read-none s = record {
     goes = goes-none told s;
-    reads = reads-none told s (IsListed Live directory)
-        (λ t. GoesOn size room cookie (lists t directory parent) [] cookie room)
-        (λ t is. goes-begin size room cookie (lists t directory parent));
+    reads = reads-none told s (HasPlace directory)
+        (λ t. GoesOn size room cookie (lists t directory above) [] cookie room)
+        (λ t is. goes-begin size room cookie (lists t directory above));
   }
 
-  module _ (old mid new : S) (entries : List DirEntry) (last left : ℕ) (has : HasRead old mid entries last left)
+  module _ (old mid new : S) (entries : List Entry) (last left : ℕ) (has : HasRead old mid entries last left)
       (goes : Goes told mid new 0) where
     pub read-goes : Goes told old new 0
     read-goes = goes-then told old mid new 0 0 has.goes goes
 
-    pub read-up : (fault : PairFault) → GivesUpOn told mid new (IsListed Live directory) fault
-        → GivesUpOn told old new (IsListed Live directory) fault
+    pub read-up : (fault : PairFault) → GivesUpOn told mid new (HasPlace directory) fault
+        → GivesUpOn told old new (HasPlace directory) fault
     read-up fault up =
-        gives_up_behind told old mid new 0 0 (IsListed Live directory) (IsListed Live directory) (λ t. t) has.goes goes
+        gives_up_behind told old mid new 0 0 (HasPlace directory) (HasPlace directory) (λ t. t) has.goes goes
         (λ w t agrees lies is. has.reads.stays w t agrees lies tt) (λ t is. is) fault up
 
-    module _ (found : Option DirEntry)
-        (next : Reads told mid new (IsListed Live directory) (λ t. IsNextOf (lists t directory parent) last found)) where
+    module _ (found : Option Entry)
+        (next : Reads told mid new (HasPlace directory) (λ t. IsNextOf (lists t directory above) last found)) where
       abbrev So : Tree → Type 0
-      So t = GoesOn size room cookie (lists t directory parent) entries last left
+      So t = GoesOn size room cookie (lists t directory above) entries last left
 
-      read-then : (Q : Tree → Type 0) → ((t : Tree) → So t → IsNextOf (lists t directory parent) last found → Q t)
-          → Reads told old new (IsListed Live directory) Q
+      read-then : (Q : Tree → Type 0) → ((t : Tree) → So t → IsNextOf (lists t directory above) last found → Q t)
+          → Reads told old new (HasPlace directory) Q
       read-then Q says =
-          reads-more told old new (IsListed Live directory) (IsListed Live directory)
-          (λ t. So t × IsNextOf (lists t directory parent) last found) Q (λ t is. is) (λ t is both. says t both.0 both.1)
-          (reads_both told old mid new 0 (IsListed Live directory) So (λ t. IsNextOf (lists t directory parent) last found) goes
+          reads-more told old new (HasPlace directory) (HasPlace directory)
+          (λ t. So t × IsNextOf (lists t directory above) last found) Q (λ t is. is) (λ t is both. says t both.0 both.1)
+          (reads_both told old mid new 0 (HasPlace directory) So (λ t. IsNextOf (lists t directory above) last found) goes
           has.reads next)
 
-    pub read-all : Reads told mid new (IsListed Live directory) (λ t. IsNextOf (lists t directory parent) last None)
-        → Reads told old new (IsListed Live directory)
-        (λ t. IsTold size room cookie (lists t directory parent) (record { entries = entries; eof = true }))
+    pub read-all : Reads told mid new (HasPlace directory) (λ t. IsNextOf (lists t directory above) last None)
+        → Reads told old new (HasPlace directory)
+        (λ t. IsTold size room cookie (lists t directory above) (record { entries = entries; eof = true }))
     read-all next =
         read-then None next
-        (λ t. IsTold size room cookie (lists t directory parent) (record { entries = entries; eof = true }))
-        (λ t so none. told-all size room cookie (lists t directory parent) entries last left so none)
+        (λ t. IsTold size room cookie (lists t directory above) (record { entries = entries; eof = true }))
+        (λ t so none. told-all size room cookie (lists t directory above) entries last left so none)
 
-    module _ (e : DirEntry)
-        (next : Reads told mid new (IsListed Live directory) (λ t. IsNextOf (lists t directory parent) last (Some e))) where
-      pub read-some : nat_le (size (listed_as e)) left ≡ false → Reads told old new (IsListed Live directory)
-          (λ t. IsTold size room cookie (lists t directory parent) (record { entries = entries; eof = false }))
+    module _ (e : Entry)
+        (next : Reads told mid new (HasPlace directory) (λ t. IsNextOf (lists t directory above) last (Some e))) where
+      pub read-some : nat_le (size (listed_as e)) left ≡ false → Reads told old new (HasPlace directory)
+          (λ t. IsTold size room cookie (lists t directory above) (record { entries = entries; eof = false }))
       read-some at =
           read-then (Some e) next
-          (λ t. IsTold size room cookie (lists t directory parent) (record { entries = entries; eof = false }))
-          (λ t so more. told-some size room cookie (lists t directory parent) entries last left so e more at)
+          (λ t. IsTold size room cookie (lists t directory above) (record { entries = entries; eof = false }))
+          (λ t so more. told-some size room cookie (lists t directory above) entries last left so e more at)
 
       pub read-more : nat_le (size (listed_as e)) left ≡ true
           → HasRead old new (entries ++ e ∷ []) e.cookie (left - size (listed_as e))
       read-more at = record {
         goes = read-goes;
         reads = read-then (Some e) next
-            (λ t. GoesOn size room cookie (lists t directory parent) (entries ++ e ∷ []) e.cookie (left - size (listed_as e)))
-            (λ t so more. goes-more size room cookie (lists t directory parent) entries last left so e more at);
+            (λ t. GoesOn size room cookie (lists t directory above) (entries ++ e ∷ []) e.cookie (left - size (listed_as e)))
+            (λ t so more. goes-more size room cookie (lists t directory above) entries last left so e more at);
       }
 
 -- ---- what room is left

@@ -1,3 +1,4 @@
+pub mod Rising
 pub mod Behind
 pub mod Filling
 pub mod Pages

@@ -1,36 +1,35 @@
 -- The checks of a page, once its directory is found, and what they give of its listing.
 use Rattle.std.proofs.Common.{◌≡◌, ℕ, zero, suc, ◌-◌, ◌==◌, Bool, true, false, not, ◌&&◌, ◌||◌, if◌then◌else◌}
 use Rattle.std.proofs.Common.{nat_lt, List}
-use Rattle.std.proofs.Common.{length, map, Some, Result, Ok, Err, refl, sym, ◌∙◌, ap, subst, arith}
+use Rattle.std.proofs.Common.{length, map, Result, Ok, Err, refl, sym, ◌∙◌, ap, subst, arith}
 use Rattle.std.proofs.lemmas.Bool.{eqb-true, lt-ltb, ne_eqb}
 use Rattle.std.proofs.lemmas.List.{length-map}
 use Rattle.nfs3_types.specs.declared.args.ReadDirArgs.{ReadDirArgs}
-use Rattle.nfs3_types.specs.declared.attributes.Fattr.{Fattr}
 use Rattle.nfs3_types.specs.declared.cred.Cred.{Cred}
 use Rattle.nfs3_types.specs.declared.status.Status.{Status}
 use Rattle.nfs3_types.specs.declared.status.Status.TheVariants.{Acces, BadCookie, NotDir, TooSmall}
 use Rattle.pair_types.specs.declared.fault.PairFault.{PairFault}
-use Rattle.pairs.specs.declared.at.At.TheVariants.{Live as LiveView}
 use Rattle.pairs.specs.Told.{PairsTold, Goes}
 use Rattle.fs_rules.specs.declared.inode.Inode.{Inode as Kept}
 use Rattle.fs_rules.specs.declared.place.Place.{Place}
-use Rattle.fs_rules.specs.declared.place.Place.TheVariants.{Live, SnapshotDirectory, Kept as KeptPlace}
-use Rattle.fs_rules.specs.Attributes.{is_directory, attributes_of}
-use Rattle.fs_rules.specs.Checks.{Check, ◌>>=◌, need, refuse_if, find_object, is_live}
+use Rattle.fs_rules.specs.Attributes.{is_directory}
+use Rattle.fs_rules.specs.Checks.{Check, ◌>>=◌, need, refuse_if, find_object}
 use Rattle.fs_rules.specs.Listing.{Listed, Page as PageOf, bare_size, behind, fitting, is_zeros, limit, listing, page}
 use Rattle.fs_rules.specs.Listing.{page_behind, page_of}
-use Rattle.fs_rules.specs.Places.{Object, node_at, attributes, fileid_at, fsid_at}
+use Rattle.fs_rules.specs.Places.{Object, above}
 use Rattle.fs_rules.specs.Rights.{may_read}
 use Rattle.fs_rules.specs.Sound.{IsSound}
 use Rattle.fs_rules.specs.Tree.{Tree}
 use Rattle.fs_shows.specs.declared.halt.Halt.TheVariants.{Refused}
 use Rattle.fs_shows.specs.Steps.{Reads, GivesUpOn}
-use Rattle.dir_ops.specs.Listing.{IsListed}
-use Rattle.dir_ops.proofs.Keeping.{sound-listed}
+use Rattle.fs_keys.specs.declared.rows.First.{First}
+use Rattle.fs_shows.specs.Shows.{first_of}
+use Rattle.procs_object.specs.declared.object.Begun.{Begun}
 use Rattle.procs_object.specs.declared.object.Found.{Found}
-use Rattle.procs_object.specs.Finding.{IsObject, CheckedOn}
+use Rattle.procs_object.specs.Finding.{HasPlace, IsBegun, IsObject, CheckedOn}
 use Rattle.procs_object.proofs.Gathering.{gathers, gathers-up}
 use Rattle.procs_object.proofs.Reading.{reads-more}
+use Rattle.procs_object.proofs.Snapshots.{has-found}
 use Rattle.procs_object.proofs.Told.{object-place, object-inode}
 use Rattle.procs_listing.specs.declared.fitting.Listing.{Listing}
 use Rattle.procs_listing.specs.declared.paging.Page.{Page}
@@ -80,25 +79,7 @@ page-by-room t cred size a o found =
     by_tests true true true true = refl
     by_tests true true true false = refl
 
--- where there is room, it is a directory
-pub room-directory : (i : Kept) (cred : Cred) (cookie : ℕ) (verifier : List ℕ) (count room : ℕ)
-    → room_for i cred cookie verifier count ≡ Ok room → is_directory i.kind ≡ true
-unfolding room_for
-room-directory i cred cookie verifier count room gives = by_test (is_directory i.kind) refl gives
-  where
-    by_test : (u : Bool) → is_directory i.kind ≡ u
-        → (need u NotDir >>= (λ _. need (may_read cred i) Acces >>= (λ _. need ((cookie == 0) || is_zeros verifier) BadCookie
-        >>= (λ _. refuse_if (nat_lt (limit count) bare_size) TooSmall >>= (λ _. Ok (limit count - bare_size)))))) ≡ Ok room
-        → is_directory i.kind ≡ true
-    by_test true at gives = at
-    by_test false at gives = absurd (cc)
-
 -- ---- with what was found
-
-live-place : (p : Place) → is_live p ≡ true → p ≡ Live (fileid_at p)
-live-place (Live id) live = refl
-live-place SnapshotDirectory live = absurd (cc)
-live-place (KeptPlace number id) live = absurd (cc)
 
 module _ (t : Tree) (cred : Cred) (size : Listed → ℕ) (a : ReadDirArgs (List ℕ)) where
   pub page-unfound : (status : Status) → find_object t a.directory ≡ Err status → page t cred size a ≡ Err status
@@ -123,176 +104,153 @@ module _ (t : Tree) (cred : Cred) (size : Listed → ℕ) (a : ReadDirArgs (List
         → page t cred size a ≡ Err status
     page-refused status gives = page-by (Err status) gives
 
-    module _ (live : is_live x.place ≡ true) (room : ℕ)
-        (gives : Ok room ≡ room_for x.inode.head.kept cred a.cookie a.verifier a.count)
-      where
-        place-live : o.place ≡ Live (fileid_at x.place)
-        place-live = object-place t x o is ∙ live-place x.place live
+    module _ (room : ℕ) (gives : Ok room ≡ room_for x.inode.head.kept cred a.cookie a.verifier a.count) (upper : Place)
+        (upper-is : upper ≡ above x.place x.inode.head.kept) where
+      -- the table lists what was listed
+      listing-is : listing t o ≡ lists t x.place upper
+      unfolding listing
+      listing-is =
+          ap (λ (p : Place). listing t (record { place = p; inode = o.inode; size = o.size })) (object-place t x o is)
+          ∙ ap (λ (i : Kept). listing t (record { place = x.place; inode = i; size = o.size })) (object-inode t x o is)
+          ∙ ap (λ (p : Place). lists t x.place p) (sym upper-is)
 
-        node-live : t.nodes (fileid_at x.place) ≡ Some is.node
-        unfolding node_at
-        node-live =
-            subst (λ (p : Place). node_at t p ≡ Some is.node) (live-place x.place live) is.there
+      module _ (begins : First) (first : first_of t ≡ begins) (l : Listing)
+          (told : IsTold size room a.cookie (lists t x.place upper) l) where
+        abbrev left : List Listed
+        left = behind a.cookie (listing t o)
 
-        pub page-listed : IsSound t → IsListed LiveView (fileid_at x.place) t
-        page-listed sound =
-            sound-listed t sound (fileid_at x.place) is.node node-live
-            (ap (λ (k : Kept). is_directory k.kind) (sym is.inode.kept)
-            ∙ room-directory x.inode.head.kept cred a.cookie a.verifier a.count room (sym gives))
+        left-is : left ≡ behind a.cookie (lists t x.place upper)
+        left-is = ap (behind a.cookie) listing-is
 
-        -- the table lists what was listed
-        listing-is : listing t o ≡ lists t (fileid_at x.place) x.inode.head.kept.parent
-        unfolding listing
-        listing-is = by_place o place-live (object-inode t x o is)
+        told-is : fitting size room left ≡ map listed_as l.entries
+        told-is = ap (fitting size room) left-is ∙ told.told
+
+        eof-is : (length (map listed_as l.entries) == length left) ≡ l.eof
+        eof-is =
+            ap (λ (n : ℕ). n == length left) (length-map l.entries listed_as)
+            ∙ ap (λ (ls : List Listed). length l.entries == length ls) left-is ∙ told.eof
+
+        page-as : page t cred size a ≡ paged o left (map listed_as l.entries)
+        unfolding paged
+        page-as = page-by (Ok room) gives ∙ ap (paged o left) told-is
+
+        -- nothing is told of something just where no entry is there, and it is not all
+        small-is : (nat_lt 0 (length left) && (length (map listed_as l.entries) == 0)) ≡ ((length l.entries == 0) && not l.eof)
+        small-is =
+            ap (λ (n : ℕ). nat_lt 0 (length left) && (n == 0)) (length-map l.entries listed_as)
+            ∙ by_none (length l.entries) (length left)
+            ∙ ap (λ (b : Bool). (length l.entries == 0) && not b)
+            (ap (λ (n : ℕ). n == length left) (sym (length-map l.entries listed_as)) ∙ eof-is)
           where
-            by_place : (o : Object) → o.place ≡ Live (fileid_at x.place) → o.inode ≡ x.inode.head.kept
-                → listing t o ≡ lists t (fileid_at x.place) x.inode.head.kept.parent
-            by_place o at inode =
-                ap (λ (p : Place). listing t (record { place = p; inode = o.inode; size = o.size })) at
-                ∙ ap (λ (i : Kept). listing t (record { place = Live (fileid_at x.place); inode = i; size = o.size })) inode
+            and-true : (b : Bool) → (b && true) ≡ b
+            and-true true = refl
+            and-true false = refl
 
-        module _ (l : Listing) (told : IsTold size room a.cookie (lists t (fileid_at x.place) x.inode.head.kept.parent) l) where
-          abbrev left : List Listed
-          left = behind a.cookie (listing t o)
+            and-false : (b : Bool) → (b && false) ≡ false
+            and-false true = refl
+            and-false false = refl
 
-          left-is : left ≡ behind a.cookie (lists t (fileid_at x.place) x.inode.head.kept.parent)
-          left-is = ap (behind a.cookie) listing-is
+            some-left : (n : ℕ) → nat_lt 0 n ≡ not (0 == n)
+            some-left zero = refl
+            some-left (suc n) =
+                lt-ltb 0 (suc n) (omega arith) ∙ sym (ap (λ (b : Bool). not b)
+                (ne_eqb 0 (suc n) (λ e. absurd (omega (arith, e)))))
 
-          told-is : fitting size room left ≡ map listed_as l.entries
-          told-is = ap (fitting size room) left-is ∙ told.told
+            by_test : (m n : ℕ) (u : Bool) → (m == 0) ≡ u → (nat_lt 0 n && u) ≡ (u && not (m == n))
+            by_test m n true at =
+                and-true (nat_lt 0 n) ∙ some-left n ∙ ap (λ (k : ℕ). not (k == n)) (sym (eqb-true m 0 at))
+            by_test m n false at = and-false (nat_lt 0 n)
 
-          eof-is : (length (map listed_as l.entries) == length left) ≡ l.eof
-          eof-is =
-              ap (λ (n : ℕ). n == length left) (length-map l.entries listed_as)
-              ∙ ap (λ (ls : List Listed). length l.entries == length ls) left-is ∙ told.eof
+            by_none : (m n : ℕ) → (nat_lt 0 n && (m == 0)) ≡ ((m == 0) && not (m == n))
+            by_none m n = by_test m n (m == 0) refl
 
-          page-as : page t cred size a ≡ paged o left (map listed_as l.entries)
-          unfolding paged
-          page-as = page-by (Ok room) gives ∙ ap (paged o left) told-is
+        pub page-small : ((length l.entries == 0) && not l.eof) ≡ true → page t cred size a ≡ Err TooSmall
+        unfolding paged
+        page-small small =
+            page-as
+            ∙ ap (λ (b : Bool). refuse_if b TooSmall >>= (λ _. Ok (record {
+              directory = o;
+              told = map listed_as l.entries;
+              eof = length (map listed_as l.entries) == length left;
+            }))) (small-is ∙ small)
 
-          -- nothing is told of something just where no entry is there, and it is not all
-          small-is : (nat_lt 0 (length left) && (length (map listed_as l.entries) == 0)) ≡ ((length l.entries == 0) && not l.eof)
-          small-is =
-              ap (λ (n : ℕ). nat_lt 0 (length left) && (n == 0)) (length-map l.entries listed_as)
-              ∙ by_none (length l.entries) (length left)
-              ∙ ap (λ (b : Bool). (length l.entries == 0) && not b)
-              (ap (λ (n : ℕ). n == length left) (sym (length-map l.entries listed_as)) ∙ eof-is)
-            where
-              and-true : (b : Bool) → (b && true) ≡ b
-              and-true true = refl
-              and-true false = refl
-
-              and-false : (b : Bool) → (b && false) ≡ false
-              and-false true = refl
-              and-false false = refl
-
-              some-left : (n : ℕ) → nat_lt 0 n ≡ not (0 == n)
-              some-left zero = refl
-              some-left (suc n) =
-                  lt-ltb 0 (suc n) (omega arith) ∙ sym (ap (λ (b : Bool). not b)
-                  (ne_eqb 0 (suc n) (λ e. absurd (omega (arith, e)))))
-
-              by_test : (m n : ℕ) (u : Bool) → (m == 0) ≡ u → (nat_lt 0 n && u) ≡ (u && not (m == n))
-              by_test m n true at =
-                  and-true (nat_lt 0 n) ∙ some-left n ∙ ap (λ (k : ℕ). not (k == n)) (sym (eqb-true m 0 at))
-              by_test m n false at = and-false (nat_lt 0 n)
-
-              by_none : (m n : ℕ) → (nat_lt 0 n && (m == 0)) ≡ ((m == 0) && not (m == n))
-              by_none m n = by_test m n (m == 0) refl
-
-          pub page-small : ((length l.entries == 0) && not l.eof) ≡ true → page t cred size a ≡ Err TooSmall
-          unfolding paged
-          page-small small =
-              page-as
+        pub page-told : ((length l.entries == 0) && not l.eof) ≡ false
+            → (p : PageOf) × (page t cred size a ≡ Ok p) × IsPage t (record { begins = begins; attributes = x.attributes; listing = l }) p
+        unfolding paged
+        page-told some = (
+          record { directory = o; told = map listed_as l.entries; eof = length (map listed_as l.entries) == length left },
+          page-as
               ∙ ap (λ (b : Bool). refuse_if b TooSmall >>= (λ _. Ok (record {
                 directory = o;
                 told = map listed_as l.entries;
                 eof = length (map listed_as l.entries) == length left;
-              }))) (small-is ∙ small)
+              }))) (small-is ∙ some),
+          record {
+            attributes_are = is.attributes;
+            first = first;
+            told = refl;
+            eof = eof-is;
+          },
+        )
 
-          pub page-told : ((length l.entries == 0) && not l.eof) ≡ false
-              → (p : PageOf) × (page t cred size a ≡ Ok p) × IsPage t (record { attributes = x.attributes; listing = l }) p
-          unfolding paged attributes attributes_of
-          page-told some = (
-            record { directory = o; told = map listed_as l.entries; eof = length (map listed_as l.entries) == length left },
-            page-as
-                ∙ ap (λ (b : Bool). refuse_if b TooSmall >>= (λ _. Ok (record {
-                  directory = o;
-                  told = map listed_as l.entries;
-                  eof = length (map listed_as l.entries) == length left;
-                }))) (small-is ∙ some),
-            record {
-              attributes_are = is.attributes;
-              fsid = fsid-is;
-              told = refl;
-              eof = eof-is;
-            },
-          )
-            where
-              fsid-is : t.fsid ≡ x.attributes.fsid
-              fsid-is =
-                  sym (ap (λ (p : Place). fsid_at t p) place-live) ∙ ap (λ (f : Fattr). f.fsid) is.attributes
+        -- what the page's end says
+        abbrev Ends : Result Page Status → Type 0
+        Ends (Ok y) = (p : PageOf) × (page t cred size a ≡ Ok p) × IsPage t y p
+        Ends (Err status) = page t cred size a ≡ Err status
 
-          -- what the page's end says
-          abbrev Ends : Result Page Status → Type 0
-          Ends (Ok y) = (p : PageOf) × (page t cred size a ≡ Ok p) × IsPage t y p
-          Ends (Err status) = page t cred size a ≡ Err status
-
-          pub page-ends : (r : Result Page Status) → r ≡ page_by x.attributes l → Ends r
-          page-ends r is = subst Ends (sym is) (by_small ((length l.entries == 0) && not l.eof) refl)
-            where
-              by_small : (b : Bool) → ((length l.entries == 0) && not l.eof) ≡ b
-                  → Ends (if b then Err TooSmall else Ok (record { attributes = x.attributes; listing = l }))
-              by_small true small = page-small small
-              by_small false some = page-told some
+        pub page-ends : (r : Result Page Status) → r ≡ page_by begins x.attributes l → Ends r
+        page-ends r is = subst Ends (sym is) (by_small ((length l.entries == 0) && not l.eof) refl)
+          where
+            by_small : (b : Bool) → ((length l.entries == 0) && not l.eof) ≡ b
+                → Ends (if b then Err TooSmall else Ok (record { begins = begins; attributes = x.attributes; listing = l }))
+            by_small true small = page-small small
+            by_small false some = page-told some
 
 -- ---- of the trees that may lie below
 
 module _ {S W : Type 0} (told : PairsTold S W) (old mid : S) (cred : Cred) (size : Listed → ℕ) (a : ReadDirArgs (List ℕ))
-    (x : Found) (checked : CheckedOn told old mid IsSound IsObject (λ t. find_object t a.directory) (Ok x)) where
+    (y : Begun) (checked : CheckedOn told old mid IsSound IsBegun (λ t. find_object t a.directory) (Ok y)) where
   abbrev IsFound : Tree → Type 0
-  IsFound t = (o : Object) × (find_object t a.directory ≡ Ok o) × IsObject t x o
+  IsFound t = (o : Object) × (find_object t a.directory ≡ Ok o) × IsBegun t y o
 
-  pub find-refused : (status : Status) → Err status ≡ room_for x.inode.head.kept cred a.cookie a.verifier a.count
+  pub find-refused : (status : Status) → Err status ≡ room_for y.found.inode.head.kept cred a.cookie a.verifier a.count
       → CheckedOn told old mid IsSound IsPage (λ t. page t cred size a) (Err (Refused status))
   find-refused status gives =
       reads-more told old mid IsSound IsSound IsFound (λ t. page t cred size a ≡ Err status) (λ t is. is)
-      (λ t sound f. page-refused t cred size a x f.0 f.1 f.2 status gives) checked
+      (λ t sound f. page-refused t cred size a y.found f.0 f.1 f.2.object status gives) checked
 
-  module _ (new : S) (before : Goes told old mid 0) (goes : Goes told mid new 0) (live : is_live x.place ≡ true)
-      (room directory : ℕ) (number : directory ≡ fileid_at x.place)
-      (gives : Ok room ≡ room_for x.inode.head.kept cred a.cookie a.verifier a.count) where
-    listed : (t : Tree) → IsSound t → IsFound t → IsListed LiveView directory t
-    listed t sound f =
-        subst (λ (d : ℕ). IsListed LiveView d t) (sym number) (page-listed t cred size a x f.0 f.1 f.2 live room gives sound)
+  module _ (new : S) (before : Goes told old mid 0) (goes : Goes told mid new 0) (room : ℕ) (upper : Place)
+      (gives : Ok room ≡ room_for y.found.inode.head.kept cred a.cookie a.verifier a.count)
+      (upper-is : upper ≡ above y.found.place y.found.inode.head.kept) where
+    placed : (t : Tree) → IsSound t → IsFound t → HasPlace y.found.place t
+    placed t sound f = has-found t y.found f.0 sound f.2.object
 
-    pub find-up : (fault : PairFault) → GivesUpOn told mid new (IsListed LiveView directory) fault
-        → GivesUpOn told old new IsSound fault
-    find-up fault up = gathers-up told old mid new IsFound (IsListed LiveView directory) goes checked listed 0 before fault up
+    pub find-up : (fault : PairFault) → GivesUpOn told mid new (HasPlace y.found.place) fault → GivesUpOn told old new IsSound fault
+    find-up fault up = gathers-up told old mid new IsFound (HasPlace y.found.place) goes checked placed 0 before fault up
 
-    module _ (l : Listing) (read : Reads told mid new (IsListed LiveView directory)
-        (λ t. IsTold size room a.cookie (lists t directory x.inode.head.kept.parent) l)) where
+    module _ (l : Listing) (read : Reads told mid new (HasPlace y.found.place)
+        (λ t. IsTold size room a.cookie (lists t y.found.place upper) l)) where
       abbrev IsRead : Tree → Type 0
-      IsRead t = IsTold size room a.cookie (lists t directory x.inode.head.kept.parent) l
+      IsRead t = IsTold size room a.cookie (lists t y.found.place upper) l
 
       found-then : (Q : Tree → Type 0)
-          → ((t : Tree) (o : Object) → find_object t a.directory ≡ Ok o → IsObject t x o
-          → IsTold size room a.cookie (lists t (fileid_at x.place) x.inode.head.kept.parent) l → Q t)
+          → ((t : Tree) (o : Object) → find_object t a.directory ≡ Ok o → IsBegun t y o → IsRead t → Q t)
           → Reads told old new IsSound Q
       found-then Q says =
           reads-more told old new IsSound IsSound (λ t. IsFound t × IsRead t) Q (λ t is. is)
-          (λ t sound both. says t both.0.0 both.0.1 both.0.2
-          (subst (λ (d : ℕ). IsTold size room a.cookie (lists t d x.inode.head.kept.parent) l) number both.1))
-          (gathers told old mid new IsFound (IsListed LiveView directory) goes checked listed IsRead read)
+          (λ t sound both. says t both.0.0 both.0.1 both.0.2 both.1)
+          (gathers told old mid new IsFound (HasPlace y.found.place) goes checked placed IsRead read)
 
-      pub find-small : (status : Status) → Err status ≡ page_by x.attributes l
+      pub find-small : (status : Status) → Err status ≡ page_by y.begins y.found.attributes l
           → CheckedOn told old new IsSound IsPage (λ t. page t cred size a) (Err (Refused status))
       find-small status is =
           found-then (λ t. page t cred size a ≡ Err status)
-          (λ t o found is-found told. page-ends t cred size a x o found is-found live room gives l told (Err status) is)
+          (λ t o found begun told. page-ends t cred size a y.found o found begun.object room gives upper upper-is y.begins begun.first
+          l told (Err status) is)
 
-      pub find-told : (y : Page) → Ok y ≡ page_by x.attributes l
-          → CheckedOn told old new IsSound IsPage (λ t. page t cred size a) (Ok y)
-      find-told y is =
-          found-then (λ t. (p : PageOf) × (page t cred size a ≡ Ok p) × IsPage t y p)
-          (λ t o found is-found told. page-ends t cred size a x o found is-found live room gives l told (Ok y) is)
+      pub find-told : (z : Page) → Ok z ≡ page_by y.begins y.found.attributes l
+          → CheckedOn told old new IsSound IsPage (λ t. page t cred size a) (Ok z)
+      find-told z is =
+          found-then (λ t. (p : PageOf) × (page t cred size a ≡ Ok p) × IsPage t z p)
+          (λ t o found begun told. page-ends t cred size a y.found o found begun.object room gives upper upper-is y.begins begun.first
+          l told (Ok z) is)

@@ -4,25 +4,28 @@ ghost use Rattle.std.specs.Prelude.{◌≡◌, ◌≤◌};
 ghost use Rattle.fs_rules.specs.Listing as table;
 ghost use Rattle.fs_rules.specs.Sound.{IsSound};
 ghost use Rattle.pairs.specs.Told.{Goes};
-ghost use Rattle.procs_object.specs.Finding.{IsOfLive, CheckedOn};
+ghost use Rattle.procs_object.specs.Finding.{CheckedOn};
 ghost use Rattle.procs_listing.specs.Entries.{size_with};
 ghost use Rattle.procs_listing.specs.Paging.{room_for as room_in, page_by, IsPage};
 
 use crate::fitting::{Listing, list_behind};
+use fs_keys::First;
 use fs_rules::limits::MOST_LISTING;
 use fs_rules::{Inode, may_read};
 use fs_shows::Halt;
 use nfs3_types::{Cred, Fattr, FileType, Status};
 use pairs::Pairs;
-use procs_object::see;
+use procs_object::{above, look};
 use std::alloc::Global;
 
 /// The bytes of a result beside its entries.
 const BARE_SIZE: u32 = 104;
 
-/// A directory's attributes, and what is told of its listing.
+/// The first record, a directory's attributes, and what is told of its listing.
 #[derive(Drop)]
 pub struct Page {
+    /// The first record.
+    pub begins: First,
     /// The directory's attributes.
     pub attributes: Fattr,
     /// What is told of its listing.
@@ -64,20 +67,21 @@ fn room_for(
 }
 
 /// The page of a listing; TOOSMALL where nothing of something is told.
-fn page_of(attributes: Fattr, listing: Listing) -> Result<Page, Status>
-    ensures { result ≡ page_by attributes listing }
+fn page_of(begins: First, attributes: Fattr, listing: Listing) -> Result<Page, Status>
+    ensures { result ≡ page_by begins attributes listing }
 {
     if listing.entries.is_empty() && !listing.eof {
         Err(Status::TooSmall)
     } else {
         Ok(Page {
+            begins,
             attributes,
             listing,
         })
     }
 }
 
-/// What one call tells of a live directory: the entries behind the cookie, as many as fit, where an entry says so many bytes
+/// What one call tells of a directory: the entries behind the cookie, as many as fit, where an entry says so many bytes
 /// beside its name.
 #[tactic(none)]
 pub(crate) fn find_page<P: Pairs>(
@@ -90,8 +94,7 @@ pub(crate) fn find_page<P: Pairs>(
     verifier: &[u8],
     count: u32,
 ) -> Result<Page, Halt>
-    requires live { IsOfLive directory.now }
-    requires some { 1 ≤ bare }
+    requires { 1 ≤ bare }
     ensures goes { Goes P.told pairs.old pairs.new 0 }
     ensures check { CheckedOn P.told pairs.old pairs.new IsSound IsPage
         (λ t. table.page t cred.now (size_with bare) (record {
@@ -101,28 +104,22 @@ pub(crate) fn find_page<P: Pairs>(
           count = count;
         })) result }
 {
-    let o = match see(alloc, pairs, directory) {
-        Ok(o) => o,
+    let seen = match look(alloc, pairs, directory) {
+        Ok(seen) => seen,
         Err(halt) => return Err(halt),
     };
+    let o = &seen.found;
     let kept = o.inode.head.kept;
     let room = match room_for(cred, &kept, cookie, verifier, count) {
         Ok(room) => room,
         Err(status) => return Err(Halt::Refused(status)),
     };
-    let listing = match list_behind(
-        alloc,
-        pairs,
-        o.place.fileid(),
-        kept.parent,
-        cookie,
-        bare,
-        room,
-    ) {
+    let upper = above(o.place, &kept);
+    let listing = match list_behind(alloc, pairs, o.place, upper, cookie, bare, room) {
         Ok(listing) => listing,
         Err(fault) => return Err(Halt::Fault(fault)),
     };
-    match page_of(o.attributes, listing) {
+    match page_of(seen.begins, o.attributes, listing) {
         Ok(page) => Ok(page),
         Err(status) => Err(Halt::Refused(status)),
     }

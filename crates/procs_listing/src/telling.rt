@@ -3,15 +3,17 @@
 ghost use Rattle.std.specs.Prelude.{◌≡◌, ◌++◌, ◌∷◌, [], map, OnOk, IfOk, IfErr};
 ghost use Rattle.fs_rules.specs.Checks.{told as tells};
 ghost use Rattle.fs_rules.specs.Listing as table;
-ghost use Rattle.fs_rules.specs.Listing.{entry_plus};
+ghost use Rattle.fs_rules.specs.Listing.{entry, entry_plus};
 ghost use Rattle.pairs.specs.Told.{Goes};
 ghost use Rattle.fs_shows.specs.Steps.{Reads, GivesUpOn};
-ghost use Rattle.procs_object.specs.Finding.{IsOfLive};
+ghost use Rattle.procs_object.specs.Finding.{Begins};
 ghost use Rattle.procs_object.specs.Performing.{Performs};
-ghost use Rattle.procs_listing.specs.Entries.{listed_as, shown_by, plus_by, IsOf};
+ghost use Rattle.procs_listing.specs.Entries.{listed_as, shown_by, plus_by};
 ghost use Rattle.procs_listing.specs.Paging.{body_by, body_plus_by};
 
-use crate::paging::{Page, find_page};
+use crate::entries::Entry;
+use crate::paging::find_page;
+use fs_keys::First;
 use fs_shows::Halt;
 use nfs3_types::{
     Body, Cred, DirEntry, DirEntryPlus, Fattr, Handle, ListOf, NoMemory, ReadDirArgs, ReadDirOk,
@@ -19,7 +21,7 @@ use nfs3_types::{
 };
 use pair_types::PairFault;
 use pairs::Pairs;
-use procs_object::{Found, find_child};
+use procs_object::{Found, find_place};
 use std::alloc::Global;
 
 /// The bytes of an entry of READDIR beside its name.
@@ -28,16 +30,46 @@ const ENTRY_SIZE: u32 = 24;
 /// The bytes of an entry of READDIRPLUS beside its name.
 const ENTRY_PLUS_SIZE: u32 = 144;
 
-/// The reply of READDIR.
-fn body_of(page: Page) -> Body
-    ensures { result ≡ body_by page }
+/// One entry more.
+fn push_entry(entries: &mut Vec<DirEntry>, e: DirEntry) -> Result<(), NoMemory>
+    ensures { OnOk result (entries.new.items ≡ entries.old.items ++ e ∷ []) }
 {
-    let listing = page.listing;
+    entries.push(e)?;
+    Ok(())
+}
+
+/// What READDIR tells of an entry.
+fn entry_of(alloc: Global, e: &Entry) -> Result<DirEntry, NoMemory>
+    ensures { IfOk result (λ told. told ≡ entry (listed_as e.now)) }
+{
+    Ok(DirEntry {
+        fileid: e.place.fileid(),
+        name: e.name.copy(alloc)?,
+        cookie: e.cookie,
+    })
+}
+
+/// What READDIR tells of entries.
+fn entries_of(alloc: Global, told: &[Entry]) -> Result<Vec<DirEntry>, NoMemory>
+    ensures { IfOk result (λ entries. entries.items ≡ map (λ e. entry (listed_as e)) told.now) }
+{
+    let mut entries = Vec::new(alloc);
+    for e in told {
+        let told = entry_of(alloc, e)?;
+        push_entry(&mut entries, told)?;
+    }
+    Ok(entries)
+}
+
+/// The reply of READDIR.
+fn body_of(attributes: Fattr, entries: Vec<DirEntry>, eof: bool) -> Body
+    ensures { result ≡ body_by attributes entries.items eof }
+{
     Body::ReadDir(ReadDirOk {
-        attributes: Some(page.attributes),
+        attributes: Some(attributes),
         verifier: [0; 8],
-        entries: listing.entries,
-        eof: listing.eof,
+        entries: ListOf::from_vec(entries),
+        eof,
     })
 }
 
@@ -49,7 +81,6 @@ pub fn read_dir<P: Pairs>(
     cred: &Cred,
     a: &ReadDirArgs<Text>,
 ) -> Result<Body, Halt>
-    requires { IsOfLive a.now.directory }
     ensures { Performs P.told pairs.old pairs.new 0 (λ t. tells t (table.read_dir t cred.now a.now)) result }
 {
     let told = find_page(
@@ -62,9 +93,13 @@ pub fn read_dir<P: Pairs>(
         &a.verifier,
         a.count,
     );
-    match told {
-        Ok(page) => Ok(body_of(page)),
-        Err(halt) => Err(halt),
+    let page = match told {
+        Ok(page) => page,
+        Err(halt) => return Err(halt),
+    };
+    match entries_of(alloc, page.listing.entries.as_slice()) {
+        Ok(entries) => Ok(body_of(page.attributes, entries, page.listing.eof)),
+        Err(fault) => Err(Halt::Fault(PairFault::from(fault))),
     }
 }
 
@@ -82,18 +117,18 @@ fn attributes_by(found: &Option<Found>) -> Option<Fattr>
 fn plus_of(
     alloc: Global,
     fsid: u64,
-    e: &DirEntry,
+    e: &Entry,
     attributes: Option<Fattr>,
 ) -> Result<DirEntryPlus, NoMemory>
     ensures { IfOk result (λ entry. entry ≡ plus_by fsid e.now attributes) }
 {
     let object = Handle {
         fsid,
-        snapshot: 0,
-        fileid: e.fileid,
+        snapshot: e.place.snapshot(),
+        fileid: e.place.fileid(),
     };
     Ok(DirEntryPlus {
-        fileid: e.fileid,
+        fileid: e.place.fileid(),
         name: e.name.copy(alloc)?,
         cookie: e.cookie,
         attributes,
@@ -101,25 +136,25 @@ fn plus_of(
     })
 }
 
-/// What READDIRPLUS tells of an entry of the live tree.
+/// What READDIRPLUS tells of an entry, where this is the first record.
 #[tactic(none)]
 fn entry_plus_of<P: Pairs>(
     alloc: Global,
     pairs: &mut P,
-    fsid: u64,
-    e: &DirEntry,
+    begins: &First,
+    e: &Entry,
 ) -> Result<DirEntryPlus, PairFault>
     ensures goes { Goes P.told pairs.old pairs.new 0 }
-    ensures ok { IfOk result (λ entry. Reads P.told pairs.old pairs.new (IsOf fsid)
+    ensures ok { IfOk result (λ entry. Reads P.told pairs.old pairs.new (Begins begins.now)
         (λ t. entry_plus t (listed_as e.now) ≡ entry)) }
-    ensures fault { IfErr result (GivesUpOn P.told pairs.old pairs.new (IsOf fsid)) }
+    ensures fault { IfErr result (GivesUpOn P.told pairs.old pairs.new (Begins begins.now)) }
 {
-    let found = match find_child(alloc, pairs, fsid, e.fileid) {
+    let found = match find_place(alloc, pairs, begins, e.place) {
         Ok(found) => found,
         Err(fault) => return Err(fault),
     };
     let attributes = attributes_by(&found);
-    match plus_of(alloc, fsid, e, attributes) {
+    match plus_of(alloc, begins.fsid, e, attributes) {
         Ok(entry) => Ok(entry),
         Err(fault) => Err(PairFault::from(fault)),
     }
@@ -133,21 +168,21 @@ fn push_plus(entries: &mut Vec<DirEntryPlus>, e: DirEntryPlus) -> Result<(), NoM
     Ok(())
 }
 
-/// What READDIRPLUS tells of entries of the live tree.
+/// What READDIRPLUS tells of entries, where this is the first record.
 fn entries_plus_of<P: Pairs>(
     alloc: Global,
     pairs: &mut P,
-    fsid: u64,
-    told: &[DirEntry],
+    begins: &First,
+    told: &[Entry],
 ) -> Result<Vec<DirEntryPlus>, PairFault>
     ensures goes { Goes P.told pairs.old pairs.new 0 }
-    ensures ok { IfOk result (λ entries. Reads P.told pairs.old pairs.new (IsOf fsid)
+    ensures ok { IfOk result (λ entries. Reads P.told pairs.old pairs.new (Begins begins.now)
         (λ t. map (λ e. entry_plus t (listed_as e)) told.now ≡ entries.items)) }
-    ensures fault { IfErr result (GivesUpOn P.told pairs.old pairs.new (IsOf fsid)) }
+    ensures fault { IfErr result (GivesUpOn P.told pairs.old pairs.new (Begins begins.now)) }
 {
     let mut entries = Vec::new(alloc);
     for e in told {
-        let entry = match entry_plus_of(alloc, pairs, fsid, e) {
+        let entry = match entry_plus_of(alloc, pairs, begins, e) {
             Ok(entry) => entry,
             Err(fault) => return Err(fault),
         };
@@ -179,7 +214,6 @@ pub fn read_dir_plus<P: Pairs>(
     cred: &Cred,
     a: &ReadDirPlusArgs<Text>,
 ) -> Result<Body, Halt>
-    requires { IsOfLive a.now.directory }
     ensures { Performs P.told pairs.old pairs.new 0 (λ t. tells t (table.read_dir_plus t cred.now a.now)) result }
 {
     let told = find_page(
@@ -196,8 +230,7 @@ pub fn read_dir_plus<P: Pairs>(
         Ok(page) => page,
         Err(halt) => return Err(halt),
     };
-    let fsid = page.attributes.fsid;
-    match entries_plus_of(alloc, pairs, fsid, page.listing.entries.as_slice()) {
+    match entries_plus_of(alloc, pairs, &page.begins, page.listing.entries.as_slice()) {
         Ok(entries) => Ok(body_plus_of(page.attributes, entries, page.listing.eof)),
         Err(fault) => Err(Halt::Fault(fault)),
     }

@@ -12,6 +12,6 @@ mod reading;
 mod taking;
 
 pub use dropping::drop_snap;
-pub use listing::snapshots;
+pub use listing::{first_behind, snapshots};
 pub use reading::{kept, snapshot_times};
 pub use taking::add_snap;

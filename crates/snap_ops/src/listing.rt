@@ -68,7 +68,7 @@ fn entry_said(alloc: Global, key: &Key, value: &Value) -> Result<Option<NameEntr
 }
 
 /// The first snapshot behind a number.
-fn first_behind<P: Pairs>(
+pub fn first_behind<P: Pairs>(
     alloc: Global,
     pairs: &mut P,
     number: u64,

@@ -5,7 +5,7 @@ use Rattle.procs_listing.proofs.fitting.list_behind.Given as goal
 
 abbrev pub invariant-entries : goal.invariant-entries
 invariant-entries g l =
-    HasRead g.P.Pairs.told l.directory l.parent
+    HasRead g.P.Pairs.told l.directory l.above
     (size_with l.bare) l.room l.cookie l.initial.pairs l.pairs l.told.items l.last l.left
 
 abbrev pub decreases-entries : goal.decreases-entries
