@@ -18,4 +18,5 @@ mod writing;
 pub use fault::ResFault;
 pub use result::read_reply;
 pub use size::reply_size;
+pub use status::succeeded;
 pub use writing::write_reply;
