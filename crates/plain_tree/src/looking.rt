@@ -14,7 +14,7 @@ use crate::fault::Fault;
 use crate::object::Object;
 use crate::plain::Plain;
 use crate::snapshots::snapshot_named;
-use fs_rules::checks::need_good_name;
+use fs_rules::checks::{is_dot, is_dot_dot, is_snapshots_name, need_good_name};
 use fs_rules::{Inode, NameEntry, Place};
 use nfs3_types::{Body, Cred, DirOp, LookupOk, Status, Text};
 use std::alloc::Global;
