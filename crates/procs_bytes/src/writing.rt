@@ -18,7 +18,7 @@ use fs_shows::Halt;
 use inode_ops::first;
 use nfs3_types::{Body, Cred, Fattr, Moment, StableHow, Status, Text, WriteArgs, WriteOk};
 use pairs::Blocks;
-use procs_object::{Found, find_object, is_live};
+use procs_object::{Found, find_object};
 use std::alloc::Global;
 
 /// Whether a caller may write: the owner always may.
