@@ -1,5 +1,5 @@
-//! The procedures on the bytes of files, as transactions over records: READ, WRITE, COMMIT and SETATTR, on the live tree; and
-//! what CREATE does to a file that is there, where it gives a size.
+//! The procedures on the bytes of files, as transactions over records: READ, WRITE, COMMIT and SETATTR; and what CREATE
+//! does to a file that is there, where it gives a size.
 //!
 //! It promises of each, whatever it reads: it ends as its row of the answer table says, on every sound tree that may lie below,
 //! and the tree that lies below then is the row's; or it gives up, and why (`Performs`). Where a file is cut, a sweep of it may

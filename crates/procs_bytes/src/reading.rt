@@ -4,7 +4,6 @@ ghost use Rattle.std.specs.Prelude.{◌≡◌, ◌+◌, ◌||◌, nat_le};
 ghost use Rattle.fs_rules.specs.Checks.{told as tells};
 ghost use Rattle.fs_rules.specs.Rights as rights;
 ghost use Rattle.fs_rules.specs.Transfers as table;
-ghost use Rattle.procs_object.specs.Finding.{IsOfLive};
 ghost use Rattle.procs_object.specs.Performing.{Performs};
 ghost use Rattle.procs_bytes.specs.Seeing.{view_of as view_at};
 
@@ -22,7 +21,6 @@ use std::alloc::Global;
 /// COMMIT: all that is written is lasting at once.
 #[tactic(none)]
 pub fn commit<P: Pairs>(alloc: Global, pairs: &mut P, a: &FileRange<Text>) -> Result<Body, Halt>
-    requires { IsOfLive a.now.file }
     ensures { Performs P.told pairs.old pairs.new 0 (λ t. tells t (table.commit t a.now)) result }
 {
     let begins = match first(alloc, pairs) {
@@ -87,7 +85,6 @@ pub fn read<P: Blocks>(
     cred: &Cred,
     a: &FileRange<Text>,
 ) -> Result<Body, Halt>
-    requires { IsOfLive a.now.file }
     ensures { Performs P.told pairs.old pairs.new 0 (λ t. tells t (table.read t cred.now a.now)) result }
 {
     let o = match see(alloc, pairs, a.file.as_slice()) {

@@ -9,7 +9,6 @@ ghost use Rattle.fs_rules.specs.Setting as table;
 ghost use Rattle.fs_rules.specs.Setting.{is_same};
 ghost use Rattle.pairs.specs.Told.{Goes};
 ghost use Rattle.fs_shows.specs.Steps.{EditGivesUp};
-ghost use Rattle.procs_object.specs.Finding.{IsOfLive};
 ghost use Rattle.file_ops.specs.Given.{MaySize};
 ghost use Rattle.procs_bytes.specs.Resizing.{may_set, GivesOrWaits};
 ghost use Rattle.procs_bytes.specs.Waiting.{PerformsOrWaits};
@@ -85,7 +84,6 @@ fn set_attr_sized<P: Blocks>(
     size: u64,
     now: Moment,
 ) -> Result<Body, Stop>
-    requires live { IsOfLive a.now.object }
     requires sized { a.now.attributes.size ≡ Some size }
     ensures { PerformsOrWaits P.told pairs.old pairs.new 4 (λ t. table.set_attr t cred.now a.now now) result }
 {
@@ -125,7 +123,6 @@ pub fn set_attr<P: Blocks>(
     a: &SetAttrArgs<Text>,
     now: Moment,
 ) -> Result<Body, Stop>
-    requires { IsOfLive a.now.object }
     ensures { PerformsOrWaits P.told pairs.old pairs.new 4 (λ t. table.set_attr t cred.now a.now now) result }
 {
     match a.attributes.size {

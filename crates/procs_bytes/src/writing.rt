@@ -5,7 +5,6 @@ ghost use Rattle.fs_rules.specs.Attributes.{is_file as is_file_kind};
 ghost use Rattle.fs_rules.specs.Checks.{is_live as is_live_place};
 ghost use Rattle.fs_rules.specs.Places.{Object, fileid_at};
 ghost use Rattle.fs_rules.specs.Transfers as table;
-ghost use Rattle.procs_object.specs.Finding.{IsOfLive};
 ghost use Rattle.procs_object.specs.Performing.{Performs};
 ghost use Rattle.procs_bytes.specs.Writing.{write_plan_for, too_far, written_attributes};
 
@@ -106,7 +105,6 @@ pub fn write<P: Blocks>(
     a: &WriteArgs<Text>,
     now: Moment,
 ) -> Result<Body, Halt>
-    requires { IsOfLive a.now.file }
     ensures { Performs P.told pairs.old pairs.new 6 (λ t. table.write t cred.now a.now now) result }
 {
     let begins = match first(alloc, pairs) {

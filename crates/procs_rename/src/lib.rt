@@ -1,4 +1,4 @@
-//! RENAME, as a transaction over records, on the live tree.
+//! RENAME, as a transaction over records.
 //!
 //! It promises, whatever it reads: it ends as its row of the answer table says, on every sound tree that may lie below, and the
 //! tree that lies below then is the row's; or it gives up, and why (`Performs`). So it is of the way up from a directory alone

@@ -8,7 +8,7 @@ ghost use Rattle.fs_rules.specs.Renaming as table;
 ghost use Rattle.fs_rules.specs.Sound.{IsSound};
 ghost use Rattle.pairs.specs.Told.{Goes};
 ghost use Rattle.fs_shows.specs.Steps.{Reads, GivesUpOn};
-ghost use Rattle.procs_object.specs.Finding.{IsOfLive, CheckedOn};
+ghost use Rattle.procs_object.specs.Finding.{CheckedOn};
 ghost use Rattle.procs_rename.specs.Seeing.{Gathers, AreShort, renaming_by, way_for, room_behind, other_room, plan_by, IsPlanned};
 
 use crate::climbing::climb;
@@ -207,8 +207,6 @@ pub(crate) fn make_plan<P: Pairs>(
     cred: &Cred,
     a: &RenameArgs<Text>,
 ) -> Result<Planned, Halt>
-    requires from { IsOfLive a.now.from.directory }
-    requires to { IsOfLive a.now.to.directory }
     ensures goes { Goes P.told pairs.old pairs.new 0 }
     ensures sees { Gathers P.told pairs.old pairs.new (IsPlanned cred.now a.now)
         (λ t. table.rename_plan t cred.now a.now) result }

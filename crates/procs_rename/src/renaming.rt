@@ -8,7 +8,6 @@ ghost use Rattle.fs_rules.specs.Renaming as table;
 ghost use Rattle.fs_rules.specs.declared.place.Place.TheVariants.{Live as LivePlace};
 ghost use Rattle.pairs.specs.Told.{Goes};
 ghost use Rattle.fs_shows.specs.Steps.{Learns, Reads, Edits, GivesUpOn, EditGivesUp};
-ghost use Rattle.procs_object.specs.Finding.{IsOfLive};
 ghost use Rattle.procs_object.specs.Performing.{Performs};
 ghost use Rattle.procs_rename.specs.Doing.{CanTell, CanDo, told_of};
 ghost use Rattle.procs_rename.specs.Seeing.{AreShort};
@@ -100,8 +99,6 @@ pub fn rename<P: Pairs>(
     a: &RenameArgs<Text>,
     now: Moment,
 ) -> Result<Body, Halt>
-    requires from { IsOfLive a.now.from.directory }
-    requires to { IsOfLive a.now.to.directory }
     ensures { Performs P.told pairs.old pairs.new 9 (λ t. table.rename t cred.now a.now now) result }
 {
     let x = match make_plan(alloc, pairs, cred, a) {

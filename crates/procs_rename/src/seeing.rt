@@ -12,7 +12,7 @@ ghost use Rattle.fs_rules.specs.Tree.{Tree};
 ghost use Rattle.fs_rules.specs.declared.place.Place.TheVariants.{Live as LivePlace};
 ghost use Rattle.pairs.specs.Told.{Goes};
 ghost use Rattle.fs_shows.specs.Steps.{Reads, GivesUpOn};
-ghost use Rattle.procs_object.specs.Finding.{IsOfLive, IsLed, CheckedOn};
+ghost use Rattle.procs_object.specs.Finding.{IsLed, CheckedOn};
 ghost use Rattle.procs_rename.specs.Seeing.{Gathers, found_as, behind_ends, then_check, AreOpen, AreEnds, source_at, IsNamed};
 ghost use Rattle.procs_rename.specs.Seeing.{IsSeen, IsOpen};
 
@@ -92,8 +92,6 @@ fn find_ends<P: Pairs>(
     cred: &Cred,
     a: &RenameArgs<Text>,
 ) -> Result<Ends, Halt>
-    requires from { IsOfLive a.now.from.directory }
-    requires to { IsOfLive a.now.to.directory }
     ensures goes { Goes P.told pairs.old pairs.new 0 }
     ensures sees { Gathers P.told pairs.old pairs.new (AreEnds cred.now a.now) (λ t. rename_plan t cred.now a.now) result }
     ensures open { IfOk result (λ x. AreOpen a.now x.from x.to) }
@@ -175,8 +173,6 @@ pub(crate) fn find_renaming<P: Pairs>(
     cred: &Cred,
     a: &RenameArgs<Text>,
 ) -> Result<Seen, Halt>
-    requires from { IsOfLive a.now.from.directory }
-    requires to { IsOfLive a.now.to.directory }
     ensures goes { Goes P.told pairs.old pairs.new 0 }
     ensures sees { Gathers P.told pairs.old pairs.new (IsSeen cred.now a.now) (λ t. rename_plan t cred.now a.now) result }
     ensures open { IfOk result (IsOpen a.now) }

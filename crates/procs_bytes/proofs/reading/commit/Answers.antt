@@ -6,7 +6,7 @@ use Rattle.fs_rules.specs.Checks.{find_object, told}
 use Rattle.fs_rules.specs.Sound.{IsSound}
 use Rattle.fs_rules.specs.Transfers.{commit}
 use Rattle.fs_shows.proofs.Doing.{goes-then, up-given}
-use Rattle.procs_object.specs.Finding.{IsOfLive, Begins, IsObject, CheckedOn}
+use Rattle.procs_object.specs.Finding.{Begins, IsObject, CheckedOn}
 use Rattle.procs_object.proofs.Gathering.{halts-by, refuses-by, tells-by}
 use Rattle.procs_bytes.proofs.Behind.{SeesBy, seen-reads, seen-halts}
 use Rattle.procs_bytes.proofs.Transferred.{commit-refused, commit-inval, commit-told}
@@ -18,9 +18,6 @@ returns-in-Err g c =
     c.in-Err.fault
     (up-given g.P.Pairs.told c.args.pairs.now c.first.new.pairs IsSound (λ t. ⊤) (λ t sound. tt) c.in-Err.fault
     c.in-Err.ensures.fault)
-
-pub find_object-requires : goal.find_object-requires
-find_object-requires g c = subst IsOfLive (sym c.as_slice.ensures) c.requires
 
 pub returns-in-Err-find_object : goal.returns-in-Err-find_object
 returns-in-Err-find_object g c =

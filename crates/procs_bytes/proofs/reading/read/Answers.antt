@@ -8,16 +8,13 @@ use Rattle.fs_rules.specs.Transfers.{read}
 use Rattle.fs_rules.specs.Tree.{Tree}
 use Rattle.fs_shows.specs.Views.{place_in}
 use Rattle.fs_shows.proofs.Doing.{goes-then}
-use Rattle.procs_object.specs.Finding.{IsOfLive, IsObject, CheckedOn}
+use Rattle.procs_object.specs.Finding.{IsObject, CheckedOn}
 use Rattle.procs_object.proofs.Ending.{halts, refuses}
 use Rattle.procs_object.proofs.Gathering.{gathers, gathers-up, halts-by, tells-by}
 use Rattle.file_ops.specs.Given.{HasFile}
 use Rattle.procs_bytes.proofs.Behind.{Sees}
 use Rattle.procs_bytes.proofs.Transferred.{read-refused, read-inval, read-acces, read-has, read-told, read-body}
 use Rattle.procs_bytes.proofs.reading.read.Goals as goal
-
-pub see-requires : goal.see-requires
-see-requires g c = subst IsOfLive (sym c.as_slice.ensures) c.requires
 
 pub returns-in-Err : goal.returns-in-Err
 returns-in-Err g c =

@@ -5,10 +5,10 @@ use Rattle.procs_bytes.proofs.HeldUp.{no-wait, performs-more}
 use Rattle.procs_bytes.proofs.resizing.set_attr.Goals as goal
 
 pub set_attr_sized-requires : goal.set_attr_sized-requires
-set_attr_sized-requires g c = record { live = c.requires; sized = c.in-Some.is }
+set_attr_sized-requires g c = record { sized = c.in-Some.is }
 
 pub set_attr-requires : goal.set_attr-requires
-set_attr-requires g c = record { live = c.requires; no_size = c.in-None.is }
+set_attr-requires g c = c.in-None.is
 
 pub returns-in-Ok : goal.returns-in-Ok
 returns-in-Ok g c =

@@ -13,7 +13,7 @@ use Rattle.fs_shows.specs.declared.halt.Halt.TheVariants.{Refused, Fault}
 use Rattle.fs_shows.specs.Views.{IsThere}
 use Rattle.fs_shows.proofs.Doing.{goes-then, goes-most}
 use Rattle.fs_shows.proofs.Passing.{edits_both}
-use Rattle.procs_object.specs.Finding.{IsOfLive, IsObject, CheckedOn}
+use Rattle.procs_object.specs.Finding.{IsObject, CheckedOn}
 use Rattle.procs_object.proofs.Ending.{halts, refuses}
 use Rattle.procs_object.proofs.Gathering.{edit-up-behind, edits-by, edit-halts-by}
 use Rattle.procs_object.proofs.Told.{object-place, object-inode}
@@ -23,9 +23,6 @@ use Rattle.procs_bytes.proofs.Behind.{Sees}
 use Rattle.procs_bytes.proofs.HeldUp.{no-wait, held-up}
 use Rattle.procs_bytes.proofs.SizeSet.{size-halted, size-refused, size-no-space, size-may, size-done, size-resizes, sized-still}
 use Rattle.procs_bytes.proofs.resizing.set_attr_sized.Goals as goal
-
-pub see-requires : goal.see-requires
-see-requires g c = subst IsOfLive (sym c.as_slice.ensures) c.requires.live
 
 pub may_set-requires : goal.may_set-requires
 may_set-requires g c = c.requires.sized

@@ -1,5 +1,5 @@
 -- The plan is made from what the handle leads to, done by one edit, and told.
-use Rattle.std.proofs.Common.{List, ℕ, ◌≡◌, ◌+◌, take, length, Some, Ok, Err, refl, sym, ap, ◌∙◌, subst, arith}
+use Rattle.std.proofs.Common.{List, ℕ, ◌≡◌, ◌+◌, take, length, Some, Ok, Err, refl, ap, ◌∙◌, subst, arith}
 use Rattle.std.specs.Prelude.{⊤, is_ok}
 use Rattle.nfs3_types.specs.declared.body.Body.TheVariants.{Write}
 use Rattle.nfs3_types.specs.declared.stable_how.StableHow.TheVariants.{FileSync}
@@ -13,7 +13,7 @@ use Rattle.fs_shows.specs.Steps.{Edits}
 use Rattle.procs_bytes.specs.Writing.{written_attributes}
 use Rattle.fs_shows.proofs.Doing.{goes-then, goes-most, up-given}
 use Rattle.extent_ops.specs.Ranges.{blocks_in}
-use Rattle.procs_object.specs.Finding.{IsOfLive, Begins, IsObject, CheckedOn}
+use Rattle.procs_object.specs.Finding.{Begins, IsObject, CheckedOn}
 use Rattle.procs_object.proofs.Gathering.{halts-by, refuses-by, edits-by, edit-halts-by}
 use Rattle.procs_object.proofs.Told.{object-place, object-inode}
 use Rattle.file_ops.specs.Given.{MayFill}
@@ -27,9 +27,6 @@ returns-in-Err g c =
     (goes-most g.P.Pairs.told c.args.pairs.now c.first.new.pairs 0 6 (omega arith) c.first.ensures.goes) c.in-Err.fault
     (up-given g.P.Pairs.told c.args.pairs.now c.first.new.pairs IsSound (λ t. ⊤) (λ t sound. tt) c.in-Err.fault
     c.in-Err.ensures.fault)
-
-pub find_object-requires : goal.find_object-requires
-find_object-requires g c = subst IsOfLive (sym c.as_slice.ensures) c.requires
 
 pub returns-in-Err-find_object : goal.returns-in-Err-find_object
 returns-in-Err-find_object g c =

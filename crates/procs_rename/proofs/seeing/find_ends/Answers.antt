@@ -1,24 +1,18 @@
 -- Both handles are looked at, and then what is found is checked.
-use Rattle.std.proofs.Common.{◌≡◌, List, ℕ, Ok, Err, sym, subst}
+use Rattle.std.proofs.Common.{◌≡◌, List, ℕ, Ok, Err, subst}
 use Rattle.std.specs.Prelude.{⊤}
 use Rattle.fs_rules.specs.Checks.{find_object}
 use Rattle.fs_rules.specs.Places.{Object}
 use Rattle.fs_rules.specs.Renaming.{rename_plan}
 use Rattle.fs_rules.specs.Sound.{IsSound}
 use Rattle.fs_shows.proofs.Doing.{goes-none, goes-then}
-use Rattle.procs_object.specs.Finding.{IsOfLive, IsObject, CheckedOn}
+use Rattle.procs_object.specs.Finding.{IsObject, CheckedOn}
 use Rattle.procs_object.proofs.Gathering.{gathers}
 use Rattle.procs_object.proofs.Reading.{reads-none, reads-more}
 use Rattle.procs_rename.specs.Seeing.{AreEnds}
 use Rattle.procs_rename.proofs.Gathered.{ends-behind}
 use Rattle.procs_rename.proofs.Sights.{from-refused, to-refused, ends-refused, ends-passed}
 use Rattle.procs_rename.proofs.seeing.find_ends.Goals as goal
-
-pub see-requires : goal.see-requires
-see-requires g c = subst IsOfLive (sym c.as_slice.ensures) c.requires.from
-
-pub see-requires-2 : goal.see-requires-2
-see-requires-2 g c = subst IsOfLive (sym c.as_slice-2.ensures) c.requires.to
 
 pub returns-in-Err-clause-sees : goal.returns-in-Err-clause-sees
 returns-in-Err-clause-sees g c =
