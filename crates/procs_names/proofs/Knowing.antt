@@ -1,17 +1,32 @@
 -- Checks that end early: a first one, and one behind reads.
-use Rattle.std.proofs.Common.{◌≡◌, ℕ, Result, Err, subst}
+use Rattle.std.proofs.Common.{◌≡◌, ℕ, List, Result, Ok, Err, subst}
 use Rattle.nfs3_types.specs.declared.status.Status.{Status}
-use Rattle.fs_rules.specs.Checks.{Check, Row}
+use Rattle.fs_rules.specs.Checks.{Check, Row, find_object}
+use Rattle.fs_rules.specs.Places.{Object}
 use Rattle.fs_rules.specs.Sound.{IsSound}
 use Rattle.fs_rules.specs.Tree.{Tree}
 use Rattle.pairs.specs.Told.{PairsTold, Goes}
 use Rattle.fs_shows.specs.declared.halt.Halt.{Halt}
 use Rattle.fs_shows.specs.declared.halt.Halt.TheVariants.{Refused, Fault}
 use Rattle.fs_shows.specs.Steps.{Reads}
-use Rattle.procs_object.specs.Finding.{CheckedOn}
+use Rattle.procs_object.specs.declared.object.Begun.{Begun}
+use Rattle.procs_object.specs.Finding.{CheckedOn, IsBegun}
 use Rattle.procs_object.specs.Performing.{Performs}
 use Rattle.procs_object.proofs.Gathering.{gathers, gathers-up, halts-by, refuses-by}
 use Rattle.procs_object.proofs.Reading.{reads-more}
+use Rattle.procs_object.proofs.Snapshots.{has-found}
+use Rattle.procs_names.specs.Naming.{IsReady}
+
+-- what a handle leads to, as it was found by the first record
+abbrev pub IsBegunAt : List ℕ → Begun → Tree → Type 0
+IsBegunAt handle x t = (o : Object) × (find_object t handle ≡ Ok o) × IsBegun t x o
+
+-- where it was found, names can be looked up
+pub begun-ready : (t : Tree) (x : Begun) (o : Object) → IsSound t → IsBegun t x o → IsReady x.begins x.found.place t
+begun-ready t x o sound is = record {
+  begins = record { sound = sound; first = is.first };
+  there = has-found t x.found o sound is.object;
+}
 
 module _ {S W : Type 0} (told : PairsTold S W) where
   module _ {A X B Y : Type 0} (Finds : Tree → X → A → Type 0) (Gives : Tree → Y → B → Type 0) (check : Tree → Check A)

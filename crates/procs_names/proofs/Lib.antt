@@ -4,6 +4,7 @@ pub mod Rows
 pub mod Knowing
 pub mod Checked
 pub mod Entries
+pub mod Leading
 pub mod Looked
 pub mod Joined
 pub mod Emptied

@@ -1,5 +1,5 @@
 -- What is asked of a directory and of a name before the name is looked up, where the name leads, and what is found.
-use Rattle.std.specs.Prelude.{◌≡◌, ◌||◌, nat_le, Bool, true, false, ℕ, List, [], Option, Some, None, IfSome, IsSome}
+use Rattle.std.specs.Prelude.{◌≡◌, ◌||◌, nat_le, Bool, true, false, ℕ, List, [], Option, Some, None, IsSome}
 use Rattle.std.specs.Prelude.{if◌then◌else◌}
 use Rattle.nfs3_types.specs.declared.args.DirOp.{DirOp}
 use Rattle.nfs3_types.specs.declared.attributes.Fattr.{Fattr}
@@ -7,9 +7,11 @@ use Rattle.nfs3_types.specs.declared.body.Body.{Body}
 use Rattle.nfs3_types.specs.declared.body.Body.TheVariants.{Lookup}
 use Rattle.nfs3_types.specs.declared.cred.Cred.{Cred}
 use Rattle.nfs3_types.specs.declared.status.Status.TheVariants.{Acces, Exist, Inval, MLink, NoEnt, NoSpc, Xdev}
-use Rattle.nfs3_types.specs.Handles.{handle, handle_in}
+use Rattle.nfs3_types.specs.Handles.{handle}
+use Rattle.fs_rules.specs.declared.inode.Inode.{Inode}
+use Rattle.fs_rules.specs.declared.name_entry.NameEntry.{NameEntry}
 use Rattle.fs_rules.specs.declared.place.Place.{Place}
-use Rattle.fs_rules.specs.declared.place.Place.TheVariants.{Live}
+use Rattle.fs_rules.specs.declared.place.Place.TheVariants.{Live, SnapshotDirectory}
 use Rattle.fs_rules.specs.declared.plans.LinkPlan.{LinkPlan}
 use Rattle.fs_rules.specs.declared.plans.RemovePlan.{RemovePlan}
 use Rattle.fs_rules.specs.Attributes.{is_directory}
@@ -18,10 +20,12 @@ use Rattle.fs_rules.specs.Checks.{need_search, refuse_if, some_or}
 use Rattle.fs_rules.specs.Limits.{most_links}
 use Rattle.fs_rules.specs.Making.{lacks_cookies}
 use Rattle.fs_rules.specs.Names.{is_dot, is_dot_dot, is_dots, named}
-use Rattle.fs_rules.specs.Places.{Object, entry_at, fileid_at, is_snapshots_name, leads_to, shown, snapshot_at}
+use Rattle.fs_rules.specs.Places.{Object, above, entry_at, fileid_at, is_snapshots_name, leads_to, place_named, shown, snapshot_at}
 use Rattle.fs_rules.specs.Removing.{may_alter, remove_directory_plan}
 use Rattle.fs_rules.specs.Rights.{may_write}
 use Rattle.fs_rules.specs.Tree.{Node, Tree}
+use Rattle.fs_keys.specs.declared.rows.First.{First}
+use Rattle.procs_object.specs.Finding.{Begins, HasPlace}
 use Rattle.procs_object.specs.declared.object.Found.{Found}
 use Rattle.procs_names.specs.declared.linking.Linking.{Linking}
 use Rattle.procs_names.specs.declared.removing.Removal.{Removal}
@@ -36,10 +40,6 @@ IsOf fsid t = t.fsid ≡ fsid
 
 -- ---- LOOKUP
 
--- the call is not one of `.snapshot` in the live root
-abbrev pub IsOutside : DirOp (List ℕ) → Type 0
-IsOutside a = IfSome (handle_in a.directory) (λ h. is_snapshots_name (Live h.fileid) a.name ≡ false)
-
 -- what is asked before the name is looked up
 unfoldable pub need_lookup : Cred → Object → List ℕ → Check (Unit {0})
 need_lookup cred directory name = do
@@ -47,24 +47,37 @@ need_lookup cred directory name = do
   _ ← need_good_name name
   need_search cred directory
 
--- where a name leads that has no entry, but for `.snapshot`
-abbrev pub own_number : ℕ → ℕ → List ℕ → Option ℕ
-own_number directory parent name =
-    if is_dot name then Some directory else (if is_dot_dot name then Some parent else None)
+-- the number that an entry says
+abbrev pub fileid_of : NameEntry → ℕ
+fileid_of e = e.fileid
+
+-- where a name leads without an entry
+abbrev pub own_place : Place → Inode → List ℕ → Option Place
+own_place place i name =
+    if is_dot name then Some place
+    else (if is_dot_dot name then Some (above place i)
+    else (if is_snapshots_name place name then Some SnapshotDirectory else None))
+
+-- the first record is this one, on a sound tree in which something stands at the place
+pub record IsReady (row : First) (place : Place) (t : Tree) : Type 0 where
+  pub begins : Begins row t
+  pub there : HasPlace place t
+
+-- what stands at a place
+abbrev pub stands_at : Tree → Place → Check Object
+stands_at t place = some_or (leads_to t place) NoEnt
+
+-- what a name of a directory leads to
+abbrev pub leads_at : Tree → Object → List ℕ → Check Object
+leads_at t directory name = do
+  place ← some_or (place_named t directory name) NoEnt
+  stands_at t place
 
 -- what the entry of a name leads to
 unfoldable pub child_at : Tree → Place → List ℕ → Check Object
 child_at t directory name = do
   e ← some_or (entry_at t directory name) NoEnt
   some_or (leads_to t (Live e.fileid)) NoEnt
-
--- what a name of a live directory leads to, `.` and `..` too
-abbrev pub leads_by : Tree → ℕ → List ℕ → Option ℕ → Check Object
-leads_by t directory name (Some fileid) = some_or (leads_to t (Live fileid)) NoEnt
-leads_by t directory name None = child_at t (Live directory) name
-
-abbrev pub leads_at : Tree → ℕ → ℕ → List ℕ → Check Object
-leads_at t directory parent name = leads_by t directory name (own_number directory parent name)
 
 -- what is told of an object at a place, and of the directory of its name
 abbrev pub found_body : ℕ → Place → Fattr → Fattr → Body

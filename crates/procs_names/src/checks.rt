@@ -25,8 +25,6 @@ pub(crate) fn need_search(cred: &Cred, d: &Found) -> Result<(), Status>
     need(may_search(cred, &d.inode.head.kept), Status::Acces)
 }
 
-// ---- names that are there without an entry
-
 // ---- names that go
 
 /// The caller may take the name out of the directory.

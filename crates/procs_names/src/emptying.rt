@@ -41,7 +41,6 @@ fn find_emptied<P: Pairs>(
     cred: &Cred,
     a: &DirOp<Text>,
 ) -> Result<Removal, Halt>
-    requires { IsOfLive a.now.directory }
     ensures goes { Goes P.told pairs.old pairs.new 0 }
     ensures check { CheckedOn P.told pairs.old pairs.new IsSound (IsRemoval a.now.name)
         (λ t. rmdir_plan t cred.now a.now) result }

@@ -8,11 +8,9 @@ ghost use Rattle.fs_rules.specs.Limits.{longest_name};
 ghost use Rattle.fs_rules.specs.Places.{leads_to};
 ghost use Rattle.pairs.specs.Told.{Goes};
 ghost use Rattle.procs_object.specs.Finding.{IsObject, CheckedOn};
-ghost use Rattle.procs_names.specs.Naming as naming;
-ghost use Rattle.procs_names.specs.Naming.{IsOf, child_at, leads_at};
+ghost use Rattle.procs_names.specs.Naming.{IsOf, child_at};
 
 use dir_ops::look_up;
-use fs_rules::checks::{is_dot, is_dot_dot};
 use fs_shows::Halt;
 use nfs3_types::Status;
 use pairs::{At, Pairs};
@@ -63,38 +61,5 @@ pub(crate) fn child<P: Pairs>(
     match found {
         Some(row) => stand(alloc, pairs, fsid, row.fileid),
         None => Err(Halt::Refused(Status::NoEnt)),
-    }
-}
-
-/// The number that a name leads to without an entry: a directory itself, and the one above.
-fn own_number(directory: u64, parent: u64, name: &[u8]) -> Option<u64>
-    ensures { result ≡ naming.own_number directory parent name.now }
-{
-    if is_dot(name) {
-        Some(directory)
-    } else if is_dot_dot(name) {
-        Some(parent)
-    } else {
-        None
-    }
-}
-
-/// What a name of a directory leads to, `.` and `..` too: NOENT where there is nothing.
-#[tactic(none)]
-pub(crate) fn named<P: Pairs>(
-    alloc: Global,
-    pairs: &mut P,
-    fsid: u64,
-    directory: u64,
-    parent: u64,
-    name: &[u8],
-) -> Result<Found, Halt>
-    requires { length name.now ≤ longest_name }
-    ensures goes { Goes P.told pairs.old pairs.new 0 }
-    ensures check { CheckedOn P.told pairs.old pairs.new (IsOf fsid) IsObject (λ t. leads_at t directory parent name.now) result }
-{
-    match own_number(directory, parent, name) {
-        Some(fileid) => stand(alloc, pairs, fsid, fileid),
-        None => child(alloc, pairs, fsid, directory, name),
     }
 }

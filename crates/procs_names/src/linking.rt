@@ -8,7 +8,7 @@ ghost use Rattle.fs_rules.specs.Making as making;
 ghost use Rattle.fs_rules.specs.Renaming as table;
 ghost use Rattle.fs_rules.specs.Sound.{IsSound};
 ghost use Rattle.pairs.specs.Told.{Goes};
-ghost use Rattle.procs_object.specs.Finding.{CheckedOn, IsOfLive};
+ghost use Rattle.procs_object.specs.Finding.{CheckedOn};
 ghost use Rattle.procs_object.specs.Performing.{Performs};
 ghost use Rattle.procs_names.specs.Naming as naming;
 ghost use Rattle.procs_names.specs.Naming.{IsLinking, linking_of as linking_as, seen};
@@ -47,6 +47,7 @@ pub(crate) struct Linking {
 fn need_linkable(cred: &Cred, file: &Found, d: &Found, name: &[u8]) -> Result<(), Status>
     ensures check { result ≡ naming.need_linkable cred.now (seen file.now) (seen d.now) name.now }
     ensures live { OnOk result (is_live_place d.now.place ≡ true) }
+    ensures file { OnOk result (is_live_place file.now.place ≡ true) }
     ensures directory { OnOk result (attributes.is_directory d.now.inode.head.kept.kind ≡ true) }
     ensures plain { OnOk result (attributes.is_directory file.now.inode.head.kept.kind ≡ false) }
     ensures short { OnOk result (length name.now ≤ longest_name) }
@@ -110,8 +111,6 @@ fn find_linking<P: Pairs>(
     cred: &Cred,
     a: &LinkArgs<Text>,
 ) -> Result<Linking, Halt>
-    requires file { IsOfLive a.now.file }
-    requires directory { IsOfLive a.now.link.directory }
     ensures goes { Goes P.told pairs.old pairs.new 0 }
     ensures check { CheckedOn P.told pairs.old pairs.new IsSound (IsLinking a.now.link.name)
         (λ t. table.link_plan t cred.now a.now) result }
@@ -150,8 +149,6 @@ pub fn link<P: Pairs>(
     a: &LinkArgs<Text>,
     now: Moment,
 ) -> Result<Body, Halt>
-    requires file { IsOfLive a.now.file }
-    requires directory { IsOfLive a.now.link.directory }
     ensures { Performs P.told pairs.old pairs.new 4 (λ t. table.link t cred.now a.now now) result }
 {
     let r = match find_linking(alloc, pairs, cred, a) {

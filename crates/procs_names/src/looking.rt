@@ -1,36 +1,25 @@
 //! LOOKUP.
 
-ghost use Rattle.std.specs.Prelude.{◌≡◌, ◌≤◌, ◌↔◌, length, IsTrue, OnOk, IfOk};
+ghost use Rattle.std.specs.Prelude.{◌≡◌, ◌≤◌, length, OnOk, IfOk};
 ghost use Rattle.fs_rules.specs.Checks.{told as tells};
 ghost use Rattle.fs_rules.specs.Limits.{longest_name};
 ghost use Rattle.fs_rules.specs.Looking as table;
 ghost use Rattle.fs_rules.specs.Sound.{IsSound};
 ghost use Rattle.pairs.specs.Told.{Goes};
-ghost use Rattle.procs_object.specs.Finding.{CheckedOn, IsOfLive};
+ghost use Rattle.procs_object.specs.Finding.{CheckedOn};
 ghost use Rattle.procs_object.specs.Performing.{Performs};
 ghost use Rattle.procs_names.specs.Naming as naming;
-ghost use Rattle.procs_names.specs.Naming.{IsOutside, IsTold, found_body, seen};
+ghost use Rattle.procs_names.specs.Naming.{IsTold, found_body, seen};
 
 use crate::checks::{need_directory, need_search};
-use crate::finding::named;
-use fs_rules::Place;
-use fs_rules::checks::{is_snapshots_name, need_good_name};
+use crate::ways::named;
+use fs_rules::checks::need_good_name;
 use fs_shows::Halt;
 use nfs3_types::{Body, Cred, DirOp, Handle, LookupOk, NoMemory, Status, Text};
 use pair_types::PairFault;
 use pairs::Pairs;
-use procs_object::{Found, see};
+use procs_object::{Found, look};
 use std::alloc::Global;
-
-/// Whether a call is not one of `.snapshot` in the live root.
-pub fn is_outside(a: &DirOp<Text>) -> bool
-    ensures { IsTrue result ↔ IsOutside a.now }
-{
-    match Handle::of(a.directory.as_slice()) {
-        Some(h) => !is_snapshots_name(Place::Live(h.fileid), a.name.as_slice()),
-        None => true,
-    }
-}
 
 /// What LOOKUP asks of a directory and a name before it looks the name up.
 #[tactic(auto, unfolding(crate::specs::Naming::need_lookup))]
@@ -68,39 +57,29 @@ fn find_lookup<P: Pairs>(
     cred: &Cred,
     a: &DirOp<Text>,
 ) -> Result<Body, Halt>
-    requires live { IsOfLive a.now.directory }
-    requires outside { IsOutside a.now }
     ensures goes { Goes P.told pairs.old pairs.new 0 }
     ensures check { CheckedOn P.told pairs.old pairs.new IsSound IsTold (λ t. table.lookup t cred.now a.now) result }
 {
     let name = a.name.as_slice();
-    let d = match see(alloc, pairs, a.directory.as_slice()) {
-        Ok(d) => d,
+    let seen = match look(alloc, pairs, a.directory.as_slice()) {
+        Ok(seen) => seen,
         Err(halt) => return Err(halt),
     };
-    match need_lookup(cred, &d, name) {
+    match need_lookup(cred, &seen.found, name) {
         Ok(()) => {}
         Err(status) => return Err(Halt::Refused(status)),
     }
-    let fsid = d.attributes.fsid;
-    let o = match named(
-        alloc,
-        pairs,
-        fsid,
-        d.place.fileid(),
-        d.inode.head.kept.parent,
-        name,
-    ) {
+    let o = match named(alloc, pairs, &seen.begins, &seen.found, name) {
         Ok(o) => o,
         Err(halt) => return Err(halt),
     };
-    match tell(alloc, fsid, &d, &o) {
+    match tell(alloc, seen.begins.fsid, &seen.found, &o) {
         Ok(body) => Ok(body),
         Err(fault) => Err(Halt::Fault(PairFault::from(fault))),
     }
 }
 
-/// LOOKUP, but for `.snapshot` in the live root.
+/// LOOKUP.
 #[tactic(none)]
 pub fn lookup<P: Pairs>(
     alloc: Global,
@@ -108,8 +87,6 @@ pub fn lookup<P: Pairs>(
     cred: &Cred,
     a: &DirOp<Text>,
 ) -> Result<Body, Halt>
-    requires live { IsOfLive a.now.directory }
-    requires outside { IsOutside a.now }
     ensures { Performs P.told pairs.old pairs.new 0 (λ t. tells t (table.lookup t cred.now a.now)) result }
 {
     match find_lookup(alloc, pairs, cred, a) {

@@ -5,7 +5,7 @@ ghost use Rattle.fs_rules.specs.Limits.{longest_name};
 ghost use Rattle.fs_rules.specs.Removing as table;
 ghost use Rattle.fs_rules.specs.Sound.{IsSound};
 ghost use Rattle.pairs.specs.Told.{Goes};
-ghost use Rattle.procs_object.specs.Finding.{CheckedOn, IsOfLive};
+ghost use Rattle.procs_object.specs.Finding.{CheckedOn};
 ghost use Rattle.procs_object.specs.Performing.{Performs};
 ghost use Rattle.procs_names.specs.Naming as naming;
 ghost use Rattle.procs_names.specs.Naming.{IsRemoval, removal_of as removal_as, seen};
@@ -60,7 +60,6 @@ fn find_removal<P: Pairs>(
     cred: &Cred,
     a: &DirOp<Text>,
 ) -> Result<Removal, Halt>
-    requires { IsOfLive a.now.directory }
     ensures goes { Goes P.told pairs.old pairs.new 0 }
     ensures check { CheckedOn P.told pairs.old pairs.new IsSound (IsRemoval a.now.name)
         (λ t. table.remove_plan t cred.now a.now) result }
@@ -94,7 +93,6 @@ pub fn remove<P: Pairs>(
     a: &DirOp<Text>,
     now: Moment,
 ) -> Result<Body, Halt>
-    requires { IsOfLive a.now.directory }
     ensures { Performs P.told pairs.old pairs.new 2 (λ t. table.remove t cred.now a.now now) result }
 {
     let r = match find_removal(alloc, pairs, cred, a) {

@@ -14,7 +14,7 @@ use Rattle.fs_shows.specs.Steps.{GivesUpOn, Reads}
 use Rattle.dir_ops.specs.Listing.{IsListed}
 use Rattle.dir_ops.proofs.Keeping.{sound-listed}
 use Rattle.fs_shows.proofs.Doing.{goes-then}
-use Rattle.procs_object.specs.Finding.{CheckedOn, IsObject, IsOfLive}
+use Rattle.procs_object.specs.Finding.{CheckedOn, IsObject}
 use Rattle.procs_object.proofs.Gathering.{gathers, gathers-up}
 use Rattle.procs_object.proofs.Reading.{reads-more}
 use Rattle.procs_names.specs.declared.removing.Removal.{Removal}
@@ -23,9 +23,6 @@ use Rattle.procs_names.proofs.Knowing.{check-behind, check-halted, checked-at}
 use Rattle.procs_names.proofs.Checked.{IsChild, IsPlaceOf, found_fsid, found_kind, found_node, place_in}
 use Rattle.procs_names.proofs.Emptied.{rmdir_full, rmdir_halted, rmdir_lacks, rmdir_other, rmdir_plans, rmdir_refused}
 use Rattle.procs_names.proofs.emptying.find_emptied.Goals as goal
-
-pub find_directory-requires : goal.find_directory-requires
-find_directory-requires g c = subst IsOfLive (sym c.as_slice.ensures) c.requires
 
 pub returns-in-Err-clause-goes : goal.returns-in-Err-clause-goes
 returns-in-Err-clause-goes g c = c.find_directory.ensures.goes

@@ -24,9 +24,6 @@ returns-in-Err g c =
     (λ t status refused. rmdir_fails t c.args.cred.now c.args.a.now c.args.now c.requires status refused) c.in-Err.halt
     c.in-Err.ensures.check
 
-pub find_emptied-requires : goal.find_emptied-requires
-find_emptied-requires g c = c.requires
-
 pub remove_directory-requires : goal.remove_directory-requires
 remove_directory-requires g c = rw c.as_slice-name.ensures c.in-Ok.ensures.short
 

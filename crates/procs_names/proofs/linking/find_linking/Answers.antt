@@ -12,7 +12,7 @@ use Rattle.fs_rules.specs.Sound.{IsSound}
 use Rattle.fs_shows.specs.Steps.{Reads}
 use Rattle.fs_shows.specs.Views.{IsKept}
 use Rattle.fs_shows.proofs.Doing.{goes-then}
-use Rattle.procs_object.specs.Finding.{CheckedOn, IsObject, IsOfLive}
+use Rattle.procs_object.specs.Finding.{CheckedOn, IsObject}
 use Rattle.procs_object.proofs.Gathering.{gathers, gathers-up}
 use Rattle.procs_object.proofs.Reading.{reads-more}
 use Rattle.procs_names.specs.declared.linking.Linking.{Linking}
@@ -21,9 +21,6 @@ use Rattle.procs_names.proofs.Knowing.{check-behind, check-halted, checked-as}
 use Rattle.procs_names.proofs.Checked.{IsSeen}
 use Rattle.procs_names.proofs.Joined.{HasRow, link_halted, link_lacks, link_lost, link_plans, link_refused}
 use Rattle.procs_names.proofs.linking.find_linking.Goals as goal
-
-pub see-requires : goal.see-requires
-see-requires g c = subst IsOfLive (sym c.as_slice.ensures) c.requires.file
 
 pub returns-in-Err-clause-goes : goal.returns-in-Err-clause-goes
 returns-in-Err-clause-goes g c = c.see.ensures.goes
@@ -35,9 +32,6 @@ returns-in-Err-clause-check g c =
     (λ t status refused. link_halted t c.args.cred.now c.args.a.now status refused) c.in-Err.halt
     (checked-as g.P.Pairs.told c.args.pairs.now c.see.new.pairs IsSound IsObject (λ handle t. find_object t handle)
     (Err c.in-Err.halt) c.as_slice.ensures c.in-Err.ensures.check)
-
-pub see-requires-2 : goal.see-requires-2
-see-requires-2 g c = subst IsOfLive (sym c.as_slice-2.ensures) c.requires.directory
 
 pub returns-in-Err-see-clause-goes : goal.returns-in-Err-see-clause-goes
 returns-in-Err-see-clause-goes g c =
@@ -117,7 +111,7 @@ returns-clause-check g c =
     × HasRow (fileid_at c.in-Ok-see.d.place) c.args.a.now.link.name c.in-Ok-look_up.found t)
     (λ t. link_plan t c.args.cred.now c.args.a.now ≡ Err c.in-Err-need_room.status) (λ t sound. sound)
     (λ t sound known. link_lacks t c.args.cred.now c.args.a.now c.in-Ok.file known.0.0.0 known.0.0.1 known.0.0.2
-    c.in-Ok-see.d known.0.1.0 known.0.1.1 known.0.1.2 asked c.in-Ok-see.ensures.live c.in-Ok-look_up.found known.1
+    c.in-Ok-see.d known.0.1.0 known.0.1.1 known.0.1.2 asked c.in-Ok-need_linkable.ensures.live c.in-Ok-look_up.found known.1
     c.in-Err-need_room.status (ap (λ (name : List ℕ). need_room c.args.cred.now (seen c.in-Ok.file) (seen c.in-Ok-see.d)
     (is_taken_by c.in-Ok-see.d.place name (is_some c.in-Ok-look_up.found))) (sym c.as_slice-name.ensures)
     ∙ ap (λ (b : Bool). need_room c.args.cred.now (seen c.in-Ok.file) (seen c.in-Ok-see.d)
@@ -159,8 +153,8 @@ returns-in-Ok-need_room-clause-check g c =
     (λ t. (plan : LinkPlan) × (link_plan t c.args.cred.now c.args.a.now ≡ Ok plan)
     × IsLinking c.args.a.now.link.name t (linking_of c.in-Ok.file c.in-Ok-see.d) plan) (λ t sound. sound)
     (λ t sound known. link_plans t c.args.cred.now c.args.a.now c.in-Ok.file known.0.0.0 known.0.0.1 known.0.0.2
-    c.in-Ok-see.d known.0.1.0 known.0.1.1 known.0.1.2 asked c.in-Ok-see.ensures.live c.in-Ok-look_up.found known.1
-    c.in-Ok-need_linkable.ensures.plain c.in-Ok-need_linkable.ensures.directory c.in-Ok.ensures.live
+    c.in-Ok-see.d known.0.1.0 known.0.1.1 known.0.1.2 asked c.in-Ok-need_linkable.ensures.live c.in-Ok-look_up.found known.1
+    c.in-Ok-need_linkable.ensures.plain c.in-Ok-need_linkable.ensures.directory c.in-Ok-need_linkable.ensures.file
     (ap (λ (name : List ℕ). need_room c.args.cred.now (seen c.in-Ok.file) (seen c.in-Ok-see.d)
     (is_taken_by c.in-Ok-see.d.place name (is_some c.in-Ok-look_up.found))) (sym c.as_slice-name.ensures)
     ∙ ap (λ (b : Bool). need_room c.args.cred.now (seen c.in-Ok.file) (seen c.in-Ok-see.d)

@@ -14,12 +14,6 @@ use Rattle.procs_names.proofs.Knowing.{check-ends}
 use Rattle.procs_names.proofs.Rows.{link_done, link_refused, linking_can, linking_few}
 use Rattle.procs_names.proofs.linking.link.Goals as goal
 
-pub find_linking-requires-clause-file : goal.find_linking-requires-clause-file
-find_linking-requires-clause-file g c = c.requires.file
-
-pub find_linking-requires-clause-directory : goal.find_linking-requires-clause-directory
-find_linking-requires-clause-directory g c = c.requires.directory
-
 pub returns-in-Err : goal.returns-in-Err
 returns-in-Err g c =
     check-ends g.P.Pairs.told c.args.pairs.now c.find_linking.new.pairs (IsLinking c.args.a.now.link.name)

@@ -9,12 +9,6 @@ use Rattle.procs_names.proofs.Knowing.{check-ends}
 use Rattle.procs_names.proofs.Looked.{told_not, told_of}
 use Rattle.procs_names.proofs.looking.lookup.Goals as goal
 
-pub find_lookup-requires-clause-live : goal.find_lookup-requires-clause-live
-find_lookup-requires-clause-live g c = c.requires.live
-
-pub find_lookup-requires-clause-outside : goal.find_lookup-requires-clause-outside
-find_lookup-requires-clause-outside g c = c.requires.outside
-
 pub returns-in-Ok : goal.returns-in-Ok
 returns-in-Ok g c =
     tells-by g.P.Pairs.told c.args.pairs.now c.find_lookup.new.pairs (λ t. told t (lookup t c.args.cred.now c.args.a.now))

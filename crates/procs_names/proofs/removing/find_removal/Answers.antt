@@ -10,7 +10,7 @@ use Rattle.fs_rules.specs.Places.{fileid_at}
 use Rattle.fs_rules.specs.Removing.{remove_plan}
 use Rattle.fs_rules.specs.Sound.{IsSound}
 use Rattle.fs_shows.proofs.Doing.{goes-then}
-use Rattle.procs_object.specs.Finding.{CheckedOn, IsObject, IsOfLive}
+use Rattle.procs_object.specs.Finding.{CheckedOn, IsObject}
 use Rattle.procs_object.proofs.Gathering.{gathers}
 use Rattle.procs_object.proofs.Reading.{reads-more}
 use Rattle.procs_names.specs.declared.removing.Removal.{Removal}
@@ -19,9 +19,6 @@ use Rattle.procs_names.proofs.Knowing.{check-behind, check-halted, checked-at}
 use Rattle.procs_names.proofs.Checked.{IsChild, IsPlaceOf, found_fsid, place_in, remove_ends, remove_halted, remove_lacks}
 use Rattle.procs_names.proofs.Checked.{remove_plans, remove_refused}
 use Rattle.procs_names.proofs.removing.find_removal.Goals as goal
-
-pub find_directory-requires : goal.find_directory-requires
-find_directory-requires g c = subst IsOfLive (sym c.as_slice.ensures) c.requires
 
 pub returns-in-Err-clause-goes : goal.returns-in-Err-clause-goes
 returns-in-Err-clause-goes g c = c.find_directory.ensures.goes

@@ -23,9 +23,6 @@ returns-in-Err g c =
     (λ t status refused. remove_refused t c.args.cred.now c.args.a.now c.args.now status refused) c.in-Err.halt
     c.in-Err.ensures.check
 
-pub find_removal-requires : goal.find_removal-requires
-find_removal-requires g c = c.requires
-
 pub remove_file-requires : goal.remove_file-requires
 remove_file-requires g c = rw c.as_slice.ensures c.in-Ok.ensures.short
 
