@@ -1,8 +1,8 @@
 -- The table's plans, taken apart into what is asked before a name is looked up, the look-up, and what is asked behind it.
 use Rattle.std.proofs.Common.{◌≡◌, ◌∙◌, ℕ, ◌≤◌, nat_lt, Bool, true, false, not, if◌then◌else◌, List, length, refl, sym, ap}
 use Rattle.std.proofs.Common.{subst, Option, Some, None, Ok, Err}
-use Rattle.std.specs.Prelude.{◌==◌, ◌&&◌, option_map, IfSome, IsSome}
-use Rattle.std.proofs.lemmas.Bool.{ltb-false, eq-eqb}
+use Rattle.std.specs.Prelude.{◌==◌, option_map, IsSome}
+use Rattle.std.proofs.lemmas.Bool.{ltb-false}
 use Rattle.nfs3_types.specs.declared.args.DirOp.{DirOp}
 use Rattle.nfs3_types.specs.declared.attributes.Fattr.{Fattr}
 use Rattle.nfs3_types.specs.declared.cred.Cred.{Cred}
@@ -20,15 +20,16 @@ use Rattle.fs_rules.specs.Checks.{Check, ◌>>=◌, find_directory, find_object,
 use Rattle.fs_rules.specs.Limits.{longest_name}
 use Rattle.fs_rules.specs.Names.{is_dots, name_fault, named}
 use Rattle.fs_rules.specs.Places.{Object, attributes, entry_at, fileid_at, fsid_at, is_snapshots_name, leads_to, names_of}
-use Rattle.fs_rules.specs.Places.{no_snapshot, node_at, object_at, object_by, object_of, place_of, shown}
+use Rattle.fs_rules.specs.Places.{node_at, object_at, object_by, object_of, place_of, shown}
 use Rattle.fs_rules.specs.Removing.{find_removable, may_alter, remove_plan}
 use Rattle.fs_rules.specs.Sound.{IsSound}
 use Rattle.fs_rules.specs.Tree.{Node, Tree}
 use Rattle.procs_object.specs.declared.object.Found.{Found}
-use Rattle.procs_object.specs.Finding.{IsObject, IsOfLive}
+use Rattle.fs_rules.specs.Snapshots.{is_snapshot_directory}
+use Rattle.procs_object.specs.Finding.{IsObject}
 use Rattle.procs_object.proofs.Told.{object-inode, object-place}
 use Rattle.procs_names.proofs.Readied.{bare_of}
-use Rattle.procs_names.specs.Naming.{IsRemoval, child_at, need_alterable, need_removable, removal_of, seen}
+use Rattle.procs_names.specs.Naming.{IsRemoval, child_at, is_of_snapshots, need_alterable, need_removable, removal_of, says_snapshots, seen}
 
 -- ---- names and places
 
@@ -69,22 +70,18 @@ placed_at : (place : Place) (o : Option Node) (x : Object) → option_map (objec
 placed_at place (Some n) x e = let same : object_by place n ≡ x = cc in sym (ap (λ (y : Object). y.place) same)
 placed_at place None x e = absurd (cc)
 
-live_by : (h : Handle) → h.snapshot ≡ 0 → place_of h ≡ Live h.fileid
-unfolding place_of
-live_by h live =
-    ap (λ (b : Bool). if b then Live h.fileid
-    else (if (h.snapshot == no_snapshot) && (h.fileid == 2) then SnapshotDirectory else Kept h.snapshot h.fileid))
-    (eq-eqb h.snapshot 0 live)
+says_so : (o : Option Handle) (h : Handle) (b : Bool) → o ≡ Some h → is_of_snapshots o ≡ b
+    → is_snapshot_directory (place_of h) ≡ b
+says_so o h b is says = subst (λ (x : Option Handle). is_of_snapshots x ≡ b) is says
 
--- what is so of the live place of a handle is so of the place of what it leads to
-pub at_handle : (t : Tree) (bytes : List ℕ) (o : Object) (P : Place → Type 0) → IsOfLive bytes
-    → IfSome (handle_in bytes) (λ h. P (Live h.fileid)) → find_object t bytes ≡ Ok o → P o.place
+-- what a handle leads to is `.snapshot` where the handle says so
+pub place_says : (t : Tree) (bytes : List ℕ) (o : Object) (b : Bool) → says_snapshots bytes ≡ b → find_object t bytes ≡ Ok o
+    → is_snapshot_directory o.place ≡ b
 unfolding find_object object_of object_at
-at_handle t bytes o P live holds e = past_some (handle_in bytes) BadHandle _ o e (λ h is e.
+place_says t bytes o b says e = past_some (handle_in bytes) BadHandle _ o e (λ h is e.
     let there = if_some (h.fsid == t.fsid) (object_at t (place_of h)) o (some_found (object_of t h) Stale o e) in
-    let at : o.place ≡ Live h.fileid = placed_at (place_of h) (node_at t (place_of h)) o there
-    ∙ live_by h (subst (λ (x : Option Handle). IfSome x (λ h. h.snapshot ≡ 0)) is live) in
-    subst P (sym at) (subst (λ (x : Option Handle). IfSome x (λ h. P (Live h.fileid))) is holds))
+    let at : o.place ≡ place_of h = placed_at (place_of h) (node_at t (place_of h)) o there in
+    ap (λ (p : Place). is_snapshot_directory p) at ∙ says_so (handle_in bytes) h b is says)
 
 module _ (t : Tree) (x : Found) (o : Object) (is : IsObject t x o) where
   -- the attributes at its place

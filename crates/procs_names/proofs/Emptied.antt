@@ -1,18 +1,15 @@
 -- RMDIR's plan, taken apart into what is asked before the name is looked up, the look-up, and what is asked behind; and its row.
 use Rattle.std.proofs.Common.{◌≡◌, ◌∙◌, ℕ, nat_lt, Bool, true, false, if◌then◌else◌, List, [], ◌∷◌, length, refl, sym, ap}
-use Rattle.std.proofs.Common.{subst, Option, Some, None, Ok, Err, arith}
+use Rattle.std.proofs.Common.{subst, Option, Some, Ok, Err, arith}
 use Rattle.std.proofs.lemmas.Bool.{ltb-false}
-use Rattle.std.specs.Prelude.{IfSome}
 use Rattle.nfs3_types.specs.declared.args.DirOp.{DirOp}
 use Rattle.nfs3_types.specs.declared.attributes.Fattr.{Fattr}
 use Rattle.nfs3_types.specs.declared.attributes.Wcc.{Wcc}
 use Rattle.nfs3_types.specs.declared.body.Body.TheVariants.{Rmdir}
 use Rattle.nfs3_types.specs.declared.cred.Cred.{Cred}
-use Rattle.nfs3_types.specs.declared.handle.Handle.{Handle}
 use Rattle.nfs3_types.specs.declared.moment.Moment.{Moment}
 use Rattle.nfs3_types.specs.declared.status.Status.{Status}
 use Rattle.nfs3_types.specs.declared.status.Status.TheVariants.{Exist, Inval, NotDir, NotEmpty}
-use Rattle.nfs3_types.specs.Handles.{handle_in}
 use Rattle.fs_rules.specs.declared.inode.Inode.{Inode}
 use Rattle.fs_rules.specs.declared.name_entry.NameEntry.{NameEntry}
 use Rattle.fs_rules.specs.declared.place.Place.{Place}
@@ -28,12 +25,12 @@ use Rattle.fs_rules.specs.Snapshots.{drop_snapshot, is_snapshot_directory, rmdir
 use Rattle.fs_rules.specs.Sound.{IsSound}
 use Rattle.fs_rules.specs.Tree.{Node, Tree}
 use Rattle.procs_object.specs.declared.object.Found.{Found}
-use Rattle.procs_object.specs.Finding.{IsObject, IsOfLive}
+use Rattle.procs_object.specs.Finding.{IsObject}
 use Rattle.procs_object.proofs.Told.{object-inode, object-place}
 use Rattle.procs_names.specs.declared.removing.Removal.{Removal}
-use Rattle.procs_names.specs.Naming.{IsRemoval, child_at, need_alterable, need_removable_directory, removal_of, rmdir_plan, seen}
+use Rattle.procs_names.specs.Naming.{IsRemoval, child_at, need_alterable, need_removable_directory, removal_of, rmdir_plan, says_snapshots, seen}
 use Rattle.procs_names.specs.Readying.{CanRemoveDirectory, touched_less}
-use Rattle.procs_names.proofs.Checked.{at_handle, child_named, find_steps, found_kind, found_node, found_place, live_shown}
+use Rattle.procs_names.proofs.Checked.{place_says, child_named, find_steps, found_kind, found_node, found_place, live_shown}
 use Rattle.procs_names.proofs.Checked.{place_in}
 use Rattle.procs_names.proofs.Readied.{can_remove_directory, dropped_elsewhere, edited_here, removed_other}
 use Rattle.procs_names.proofs.Rows.{lost_directory, shown_after}
@@ -194,11 +191,7 @@ rmdir_tree t a now plan = drop_directory now plan.directory a.name plan.fileid t
 abbrev rmdir_row : Tree → DirOp (List ℕ) → Moment → Check RemovePlan → Row
 rmdir_row t a now plan = done plan (rmdir_tree t a now) (λ plan after. Rmdir (change t after (Live plan.directory)))
 
-never_snapshots : (o : Option Handle) → IfSome o (λ h. is_snapshot_directory (Live h.fileid) ≡ false)
-never_snapshots None = tt
-never_snapshots (Some h) = refl
-
-module _ (t : Tree) (cred : Cred) (a : DirOp (List ℕ)) (now : Moment) (live : IsOfLive a.directory) where
+module _ (t : Tree) (cred : Cred) (a : DirOp (List ℕ)) (now : Moment) (other : says_snapshots a.directory ≡ false) where
   row_by : (c : Check Object) → find_object t a.directory ≡ c
       → (c >>= (λ o. if is_snapshot_directory o.place then drop_snapshot t cred a.name now
       else remove_directory t cred a.name now o))
@@ -207,7 +200,7 @@ module _ (t : Tree) (cred : Cred) (a : DirOp (List ℕ)) (now : Moment) (live : 
   row_by (Err status) is = refl
   row_by (Ok o) is =
       ap (λ (b : Bool). if b then drop_snapshot t cred a.name now else remove_directory t cred a.name now o)
-      (at_handle t a.directory o (λ p. is_snapshot_directory p ≡ false) live (never_snapshots (handle_in a.directory)) is)
+      (place_says t a.directory o false other is)
 
   rmdir_as : rmdir t cred a now ≡ rmdir_row t a now (rmdir_plan t cred a)
   unfolding rmdir rmdir_plan

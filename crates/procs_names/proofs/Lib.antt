@@ -8,3 +8,4 @@ pub mod Leading
 pub mod Looked
 pub mod Joined
 pub mod Emptied
+pub mod Dropped

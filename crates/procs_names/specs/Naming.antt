@@ -1,5 +1,5 @@
 -- What is asked of a directory and of a name before the name is looked up, where the name leads, and what is found.
-use Rattle.std.specs.Prelude.{◌≡◌, ◌||◌, nat_le, Bool, true, false, ℕ, List, [], Option, Some, None, IsSome}
+use Rattle.std.specs.Prelude.{◌≡◌, ◌==◌, ◌||◌, option_map, nat_le, Bool, true, false, ℕ, List, [], Option, Some, None, IsSome}
 use Rattle.std.specs.Prelude.{if◌then◌else◌}
 use Rattle.nfs3_types.specs.declared.args.DirOp.{DirOp}
 use Rattle.nfs3_types.specs.declared.attributes.Fattr.{Fattr}
@@ -7,7 +7,8 @@ use Rattle.nfs3_types.specs.declared.body.Body.{Body}
 use Rattle.nfs3_types.specs.declared.body.Body.TheVariants.{Lookup}
 use Rattle.nfs3_types.specs.declared.cred.Cred.{Cred}
 use Rattle.nfs3_types.specs.declared.status.Status.TheVariants.{Acces, Exist, Inval, MLink, NoEnt, NoSpc, Xdev}
-use Rattle.nfs3_types.specs.Handles.{handle}
+use Rattle.nfs3_types.specs.declared.handle.Handle.{Handle}
+use Rattle.nfs3_types.specs.Handles.{handle, handle_in}
 use Rattle.fs_rules.specs.declared.inode.Inode.{Inode}
 use Rattle.fs_rules.specs.declared.name_entry.NameEntry.{NameEntry}
 use Rattle.fs_rules.specs.declared.place.Place.{Place}
@@ -20,13 +21,15 @@ use Rattle.fs_rules.specs.Checks.{need_search, refuse_if, some_or}
 use Rattle.fs_rules.specs.Limits.{most_links}
 use Rattle.fs_rules.specs.Making.{lacks_cookies}
 use Rattle.fs_rules.specs.Names.{is_dot, is_dot_dot, is_dots, named}
-use Rattle.fs_rules.specs.Places.{Object, above, entry_at, fileid_at, is_snapshots_name, leads_to, place_named, shown, snapshot_at}
+use Rattle.fs_rules.specs.Places.{Object, above, entry_at, fileid_at, is_snapshots_name, leads_to, place_named, place_of, shown, snapshot_at}
 use Rattle.fs_rules.specs.Removing.{may_alter, remove_directory_plan}
 use Rattle.fs_rules.specs.Rights.{may_write}
+use Rattle.fs_rules.specs.Snapshots.{is_snapshot_directory, need_snapshot}
 use Rattle.fs_rules.specs.Tree.{Node, Tree}
 use Rattle.fs_keys.specs.declared.rows.First.{First}
 use Rattle.procs_object.specs.Finding.{Begins, HasPlace}
 use Rattle.procs_object.specs.declared.object.Found.{Found}
+use Rattle.procs_names.specs.declared.dropping.Dropping.{Dropping}
 use Rattle.procs_names.specs.declared.linking.Linking.{Linking}
 use Rattle.procs_names.specs.declared.removing.Removal.{Removal}
 
@@ -133,6 +136,35 @@ pub record IsRemoval (name : List ℕ) (t : Tree) (x : Removal) (plan : RemovePl
   pub within : Node
   pub goes : t.nodes plan.fileid ≡ Some within
   pub bare : within.names ≡ []
+
+-- ---- RMDIR in `.snapshot`
+
+-- the handle is that of `.snapshot`
+abbrev pub is_of_snapshots : Option Handle → Bool
+is_of_snapshots None = false
+is_of_snapshots (Some h) = is_snapshot_directory (place_of h)
+
+abbrev pub says_snapshots : List ℕ → Bool
+says_snapshots bytes = is_of_snapshots (handle_in bytes)
+
+-- what is asked before the name is looked up
+unfoldable pub need_droppable : Cred → List ℕ → Check (Unit {0})
+need_droppable cred name = do
+  _ ← need_good_name name
+  _ ← refuse_if (is_dot name) Inval
+  _ ← refuse_if (is_dot_dot name) Exist
+  need (cred.uid == 0) Acces
+
+-- all that is asked
+unfoldable pub drop_check : Tree → Cred → DirOp (List ℕ) → Check (Unit {0})
+drop_check t cred a = do
+  _ ← find_object t a.directory
+  need_snapshot t cred a.name
+
+-- The snapshot of the name has this number, and these are the attributes of `.snapshot`.
+pub record IsDropping (name : List ℕ) (t : Tree) (x : Dropping) (asked : Unit {0}) : Type 0 where
+  pub number : option_map fileid_of (entry_at t SnapshotDirectory name) ≡ Some x.number
+  pub before : shown t SnapshotDirectory ≡ Some x.directory
 
 -- ---- LINK
 

@@ -1,14 +1,14 @@
 //! RMDIR, outside of `.snapshot`.
 
-ghost use Rattle.std.specs.Prelude.{◌≡◌, ◌≤◌, length, OnOk};
+ghost use Rattle.std.specs.Prelude.{◌≡◌, ◌≤◌, false, length, OnOk};
 ghost use Rattle.fs_rules.specs.Limits.{longest_name};
 ghost use Rattle.fs_rules.specs.Snapshots as table;
 ghost use Rattle.fs_rules.specs.Sound.{IsSound};
 ghost use Rattle.pairs.specs.Told.{Goes};
-ghost use Rattle.procs_object.specs.Finding.{CheckedOn, IsOfLive};
+ghost use Rattle.procs_object.specs.Finding.{CheckedOn};
 ghost use Rattle.procs_object.specs.Performing.{Performs};
 ghost use Rattle.procs_names.specs.Naming as naming;
-ghost use Rattle.procs_names.specs.Naming.{IsRemoval, rmdir_plan, seen};
+ghost use Rattle.procs_names.specs.Naming.{IsRemoval, rmdir_plan, says_snapshots, seen};
 
 use crate::checks::need_alterable;
 use crate::editing::{remove_directory, touched_less};
@@ -74,14 +74,14 @@ fn find_emptied<P: Pairs>(
 
 /// RMDIR, outside of `.snapshot`.
 #[tactic(none)]
-pub fn rmdir<P: Pairs>(
+pub(crate) fn remove_named<P: Pairs>(
     alloc: Global,
     pairs: &mut P,
     cred: &Cred,
     a: &DirOp<Text>,
     now: Moment,
 ) -> Result<Body, Halt>
-    requires { IsOfLive a.now.directory }
+    requires { says_snapshots a.now.directory ≡ false }
     ensures { Performs P.told pairs.old pairs.new 2 (λ t. table.rmdir t cred.now a.now now) result }
 {
     let r = match find_emptied(alloc, pairs, cred, a) {

@@ -6,6 +6,7 @@
 #![tactic(auto)]
 
 mod checks;
+mod dropping;
 mod editing;
 mod emptying;
 mod finding;
@@ -14,7 +15,7 @@ mod looking;
 mod removing;
 mod ways;
 
-pub use emptying::rmdir;
+pub use dropping::rmdir;
 pub use linking::link;
 pub use looking::lookup;
 pub use removing::remove;

@@ -13,7 +13,7 @@ use Rattle.procs_names.specs.Naming.{IsRemoval, rmdir_plan}
 use Rattle.procs_names.specs.Readying.{CanRemoveDirectory, touched_less}
 use Rattle.procs_names.proofs.Knowing.{check-ends}
 use Rattle.procs_names.proofs.Emptied.{rmdir_can, rmdir_done, rmdir_fails}
-use Rattle.procs_names.proofs.emptying.rmdir.Goals as goal
+use Rattle.procs_names.proofs.emptying.remove_named.Goals as goal
 
 pub returns-in-Err : goal.returns-in-Err
 returns-in-Err g c =
