@@ -15,7 +15,7 @@ use pair_types::PairFault;
 use pairs::Pairs;
 use std::alloc::Global;
 
-/// Drops the snapshot of this number: it is the one of its name.
+/// Drops the snapshot of this number, whatever its name.
 pub fn drop_snap<P: Pairs>(
     alloc: Global,
     pairs: &mut P,
