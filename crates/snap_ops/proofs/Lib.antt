@@ -6,3 +6,4 @@ pub mod Leaving
 pub mod Listed
 pub mod Rows
 pub mod Taken
+pub mod Putting

@@ -1,6 +1,6 @@
 //! A snapshot that is taken.
 
-ghost use Rattle.std.specs.Prelude.{◌≡◌, ◌≤◌, ◌<◌, length, OnOk, IfOk, IfErr};
+ghost use Rattle.std.specs.Prelude.{◌≡◌, ◌≤◌, ◌<◌, ◌^◌, length, OnOk, IfOk, IfErr};
 ghost use Rattle.fs_rules.specs.Limits.{last_epoch, longest_name};
 ghost use Rattle.fs_rules.specs.Snapshots.{add_snapshot, touch_times};
 ghost use Rattle.pairs.specs.Versions.{HasLives};
@@ -50,6 +50,7 @@ pub(crate) fn put_times<P: Pairs>(
 
 /// Puts the first record, whose epoch is to be no earlier than the one that is.
 fn put_first<P: Pairs>(alloc: Global, pairs: &mut P, row: &First) -> Result<(), PairFault>
+    requires { row.now.epoch < 2 ^ 64 }
     ensures goes { Goes P.told pairs.old pairs.new 1 }
     ensures ok { OnOk result (PutsFirst P.told pairs.old pairs.new row.now) }
     ensures fault { IfErr result (PutGivesUp P.told pairs.old pairs.new (Rises row.now.epoch)) }

@@ -63,3 +63,18 @@ returns-in-Err-push_entry-clause-goes g c =
 pub returns-in-Err-push_entry-clause-fault : goal.returns-in-Err-push_entry-clause-fault
 returns-in-Err-push_entry-clause-fault g c =
     up-memory g.P.Pairs.told c.args.pairs.now c.first_behind.new.pairs IsSound c.from.result c.from.ensures
+
+pub returns-then-len-ge-MOST_SNAPSHOTS-clause-fault : goal.returns-then-len-ge-MOST_SNAPSHOTS-clause-fault
+unfolding most_snapshots
+returns-then-len-ge-MOST_SNAPSHOTS-clause-fault g c =
+    read-odd g.P.Pairs.told c.args.pairs.now c.entries.pairs c.first_behind.new.pairs c.entries.told.items c.entries.last
+    c.entries.invariant c.first_behind.ensures.goes c.in-Some.e
+    (subst (λ (o : Option NameEntry). Reads g.P.Pairs.told c.entries.pairs c.first_behind.new.pairs IsSound
+    (λ t. next_entry (c.entries.last + 2) (map snapshot_entry t.snapshots) ≡ o)) c.in-Some.is c.in-Ok.ensures.ok)
+    (omega (arith, c.if-len-ge-MOST_SNAPSHOTS.true, c.len.ensures, c.entries.told.ok))
+
+pub entries-smaller : goal.entries-smaller
+entries-smaller g c =
+    let more : length c.push_entry.new.entries.items ≡ length c.entries.told.items + 1 =
+    ap length c.in-Ok-push_entry.ensures ∙ length-append c.entries.told.items (c.in-Some.e ∷ []) in
+    omega (arith, more, c.if-len-ge-MOST_SNAPSHOTS.false, c.len.ensures, c.entries.told.ok)
