@@ -1,5 +1,5 @@
--- Which calls are built: all but those whose handle is of a snapshot, LOOKUP of `.snapshot` in the live root, and CREATE with a
--- size. The handle of MKNOD does not count: it is refused whatever it names.
+-- Which calls are built: all but those whose handle is of a snapshot, and LOOKUP of `.snapshot` in the live root. The handle of
+-- MKNOD does not count: it is refused whatever it names.
 use Rattle.std.specs.Prelude.{⊤}
 use Rattle.nfs3_types.specs.Calls.{Call}
 use Rattle.nfs3_types.specs.declared.call.CallOver.TheVariants.{Null, GetAttr, SetAttr, Lookup, Access, ReadLink, Read, Write}
@@ -7,9 +7,8 @@ use Rattle.nfs3_types.specs.declared.call.CallOver.TheVariants.{Create, Mkdir, S
 use Rattle.nfs3_types.specs.declared.call.CallOver.TheVariants.{ReadDir, ReadDirPlus, FsStat, FsInfo, PathConf, Commit}
 use Rattle.procs_object.specs.Finding.{IsOfLive}
 use Rattle.procs_names.specs.Naming.{IsOutside}
-use Rattle.procs_making.specs.Plans.{GivesNoSize}
 
--- each handle of the call is of the live tree, or none of this service's; and LOOKUP and CREATE ask for what is built
+-- each handle of the call is of the live tree, or none of this service's; and LOOKUP asks for what is built
 abbrev pub IsBuilt : Call → Type 0
 IsBuilt Null = ⊤
 IsBuilt (GetAttr handle) = IsOfLive handle
@@ -19,7 +18,7 @@ IsBuilt (Access a) = IsOfLive a.object
 IsBuilt (ReadLink handle) = IsOfLive handle
 IsBuilt (Read a) = IsOfLive a.file
 IsBuilt (Write a) = IsOfLive a.file
-IsBuilt (Create a) = IsOfLive a.place.directory × GivesNoSize a.how
+IsBuilt (Create a) = IsOfLive a.place.directory
 IsBuilt (Mkdir a) = IsOfLive a.place.directory
 IsBuilt (Symlink a) = IsOfLive a.place.directory
 IsBuilt (Mknod a) = ⊤

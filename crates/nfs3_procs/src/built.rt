@@ -3,10 +3,9 @@
 ghost use Rattle.std.specs.Prelude.{◌↔◌, IsTrue};
 ghost use Rattle.procs_object.specs.Finding.{IsOfLive};
 ghost use Rattle.procs_names.specs.Naming.{IsOutside};
-ghost use Rattle.procs_making.specs.Plans.{GivesNoSize};
 ghost use Rattle.nfs3_procs.specs.Built.{IsBuilt};
 
-use nfs3_types::{CallOver, CreateHow, DirOp, OwnCall, Text};
+use nfs3_types::{CallOver, DirOp, OwnCall, Text};
 use procs_names::is_outside;
 use procs_object::is_of_live;
 
@@ -31,26 +30,7 @@ fn is_plain_lookup(a: &DirOp<Text>) -> bool
     is_live(&a.directory) && is_outside(a)
 }
 
-/// Whether CREATE gives no size.
-fn gives_no_size(how: &CreateHow) -> bool
-    ensures { IsTrue result ↔ GivesNoSize how.now }
-{
-    match how {
-        CreateHow::Unchecked(s) => s.size.is_none(),
-        CreateHow::Guarded(s) => s.size.is_none(),
-        CreateHow::Exclusive(_) => true,
-    }
-}
-
-/// Whether CREATE is built.
-fn is_plain_create(directory: &Text, how: &CreateHow) -> bool
-    ensures { IsTrue result ↔ (IsOfLive directory.now × GivesNoSize how.now) }
-{
-    is_live(directory) && gives_no_size(how)
-}
-
-/// Whether a call is built: none of its handles is of a snapshot, and it is neither LOOKUP of `.snapshot` in the live root
-/// nor CREATE with a size.
+/// Whether a call is built: none of its handles is of a snapshot, and it is not LOOKUP of `.snapshot` in the live root.
 pub fn is_built(call: &OwnCall) -> bool
     ensures { IsTrue result ↔ IsBuilt call.now }
 {
@@ -63,7 +43,7 @@ pub fn is_built(call: &OwnCall) -> bool
         CallOver::ReadLink(handle) => is_live(handle),
         CallOver::Read(a) => is_live(&a.file),
         CallOver::Write(a) => is_live(&a.file),
-        CallOver::Create(a) => is_plain_create(&a.place.directory, &a.how),
+        CallOver::Create(a) => is_live(&a.place.directory),
         CallOver::Mkdir(a) => is_live(&a.place.directory),
         CallOver::Symlink(a) => is_live(&a.place.directory),
         CallOver::Mknod(_) => true,

@@ -11,7 +11,8 @@ use fs_shows::Halt;
 use nfs3_types::{Body, CallOver, Cred, Moment, OwnCall};
 use pairs::Blocks;
 use procs_bytes::{Stop, set_attr, write};
-use procs_making::{create, mkdir, symlink};
+use procs_create::create;
+use procs_making::{mkdir, symlink};
 use procs_names::{link, remove, rmdir};
 use procs_rename::rename;
 use std::alloc::Global;
@@ -61,7 +62,7 @@ pub fn change<P: Blocks>(
     match call {
         CallOver::SetAttr(a) => set_attr(alloc, pairs, cred, a, now),
         CallOver::Write(a) => stopped(write(alloc, pairs, cred, a, now)),
-        CallOver::Create(a) => stopped(create(alloc, pairs, cred, a, now, lane)),
+        CallOver::Create(a) => create(alloc, pairs, cred, a, now, lane),
         CallOver::Mkdir(a) => stopped(mkdir(alloc, pairs, cred, a, now, lane)),
         CallOver::Symlink(a) => stopped(symlink(alloc, pairs, cred, a, now, lane)),
         CallOver::Remove(a) => stopped(remove(alloc, pairs, cred, a, now)),

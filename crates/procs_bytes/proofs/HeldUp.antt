@@ -14,6 +14,7 @@ use Rattle.fs_shows.specs.declared.halt.Halt.TheVariants.{Refused, Fault}
 use Rattle.pair_types.specs.declared.fault.PairFault.TheVariants.{Odd, HeightFull, Page}
 use Rattle.fs_shows.specs.Extents.{row as value_of_row}
 use Rattle.fs_shows.specs.Shows.{Shows}
+use Rattle.fs_shows.specs.Steps.{Reads}
 use Rattle.fs_shows.proofs.Doing.{goes-then, goes-most}
 use Rattle.fs_shows.proofs.InodeEdits.{node-held}
 use Rattle.procs_object.specs.declared.object.Found.{Found}
@@ -87,18 +88,16 @@ module _ {S W : Type 0} (told : PairsTold S W) where
     ends = p.ends;
   }
 
-  -- the size waits for a sweep
-  pub held-up : (old mid new : S) (m n : ℕ) (row : Tree → Row) (check : Tree → Check Object) (x : Found) (id size : ℕ)
-      → id < 2 ^ 64 → Goes told old mid m → Goes told mid new n → CheckedOn told old mid IsSound IsObject check (Ok x)
-      → ((t : Tree) (o : Object) → check t ≡ Ok o → IsObject t x o → Resizes id size (row t) t)
+  -- by what was learned the row gives the file a size that waits for a sweep
+  pub held-up-by : (old mid new : S) (m n : ℕ) (row : Tree → Row) (Q : Tree → Type 0) (id size : ℕ) → id < 2 ^ 64
+      → Goes told old mid m → Goes told mid new n → Reads told old mid IsSound Q → ((t : Tree) → Q t → Resizes id size (row t) t)
       → Tells told mid new (Waits id size) → PerformsOrWaits told old new (m + n) row (Err (SweepFirst id))
-  held-up old mid new m n row check x id size fits before goes checked says waits = record {
+  held-up-by old mid new m n row Q id size fits before goes reads says waits = record {
     goes = goes-then told old mid new m n before goes;
     ends = λ w t agrees lies sound.
         let a = goes.agreed w agrees in
-        let found = checked.learns w t a lies sound in
-        let still = checked.stays w t a lies tt in
-        let r = says t found.0 found.1 found.2 in
+        let still = reads.stays w t a lies tt in
+        let r = says t (reads.learns w t a lies sound) in
         let so = waits.finds w still.versions agrees still.shown still.shows.lives in
         record {
           shrinks = record {
@@ -117,3 +116,12 @@ module _ {S W : Type 0} (told : PairsTold S W) where
           waits = subst (λ (s : ℕ). Waits id s still.versions) (sym r.long) so;
         };
   }
+
+  -- the size of what a handle leads to waits for a sweep
+  pub held-up : (old mid new : S) (m n : ℕ) (row : Tree → Row) (check : Tree → Check Object) (x : Found) (id size : ℕ)
+      → id < 2 ^ 64 → Goes told old mid m → Goes told mid new n → CheckedOn told old mid IsSound IsObject check (Ok x)
+      → ((t : Tree) (o : Object) → check t ≡ Ok o → IsObject t x o → Resizes id size (row t) t)
+      → Tells told mid new (Waits id size) → PerformsOrWaits told old new (m + n) row (Err (SweepFirst id))
+  held-up old mid new m n row check x id size fits before goes checked says waits =
+      held-up-by old mid new m n row (λ t. (o : Object) × (check t ≡ Ok o) × IsObject t x o) id size fits before goes checked
+      (λ t found. says t found.0 found.1 found.2) waits

@@ -71,7 +71,7 @@ SetsBy fsid id size n now s =
     let p = apply_sattr (attributes_of fsid id n.inode (length n.content)) s now in
     attributes_of fsid id (set_attributes p (set_size size n)).inode (length (set_size size n).content) ≡ p
 
-long-sized : (size : ℕ) (n : Node) → length (set_size size n).content ≡ size
+pub long-sized : (size : ℕ) (n : Node) → length (set_size size n).content ≡ size
 unfolding set_size
 long-sized size n = length-resized size n.content
 
@@ -88,7 +88,7 @@ sets-so fsid id size n now s file sized =
     let e : s ≡ record s { size = Some size } = ap (λ (z : Option ℕ). let r : Sattr = record s { size = z } in r) sized in
     subst (SetsBy fsid id size n now) (sym e) (sets-sized fsid id size n now s file)
 
-few-cuts : (id : ℕ) (o : Option Node) → IfSome o (IsNodeWithin id) → IfSome o (λ n. n.inode.cuts < most_numbers)
+pub few-cuts : (id : ℕ) (o : Option Node) → IfSome o (IsNodeWithin id) → IfSome o (λ n. n.inode.cuts < most_numbers)
 few-cuts id None within = tt
 few-cuts id (Some n) within = within.cuts
 

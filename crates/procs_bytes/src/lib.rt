@@ -14,6 +14,6 @@ mod stop;
 mod writing;
 
 pub use reading::{commit, read};
-pub use resizing::{give_size, set_attr};
+pub use resizing::{give_size, lacks_cuts, set_attr};
 pub use stop::Stop;
-pub use writing::write;
+pub use writing::{may_fill, write};

@@ -60,7 +60,7 @@ fn may_set(cred: &Cred, a: &SetAttrArgs<Text>, size: u64, o: &Found) -> Result<(
 
 /// Whether this size is a cut of the file, and one too many.
 #[tactic(auto, unfolding(fs_rules::specs::Limits::most_numbers))]
-fn lacks_cuts(size: u64, head: &Head) -> bool
+pub fn lacks_cuts(size: u64, head: &Head) -> bool
     ensures { result ≡ (nat_lt size head.now.size && nat_le most_numbers (head.now.kept.cuts + 1)) }
 {
     size < head.size && head.kept.cuts >= MOST_NUMBERS - 1

@@ -21,7 +21,7 @@ use procs_object::{Found, find_object};
 use std::alloc::Global;
 
 /// Whether a caller may write: the owner always may.
-fn may_fill(cred: &Cred, i: &Inode) -> bool
+pub fn may_fill(cred: &Cred, i: &Inode) -> bool
     ensures { result ≡ table.may_fill cred.now i.now }
 {
     owns(cred, i.uid) || may_write(cred, i)

@@ -24,7 +24,7 @@ use Rattle.fs_rules.specs.Tree.{Tree, Node}
 use Rattle.fs_shows.specs.Files.{IsNew}
 use Rattle.procs_object.specs.Finding.{IsOfLive}
 use Rattle.procs_making.specs.declared.room.Room.{Room}
-use Rattle.procs_making.specs.Children.{node_by}
+use Rattle.procs_making.specs.Children.{new_inode, node_by}
 use Rattle.procs_making.specs.Plans.{directory_check}
 use Rattle.procs_making.specs.Rooms.{free_check, name_check, node_check, room_found}
 use Rattle.procs_making.proofs.Grouped.{checked-behind, found-then, grouped, is-free}
@@ -69,6 +69,11 @@ not-snapshots t bytes o live is = by-handle t (handle_in bytes) o live is
 
 -- ---- the row
 
+pub directory-whole : (cred : Cred) (a : MkdirArgs (List ℕ)) (now : Moment) (parent : ℕ)
+    → node_by (new_inode cred now parent (new_directory a.attributes)) ≡ new_node cred now parent (new_directory a.attributes)
+unfolding new_node
+directory-whole cred a now parent = refl
+
 abbrev pub directory-wanted : Cred → MkdirArgs (List ℕ) → Moment → ℕ → Wanted
 directory-wanted cred a now lane = record {
   cred = cred;
@@ -77,6 +82,8 @@ directory-wanted cred a now lane = record {
   lane = lane;
   check = λ directory is_there next. directory_check cred a directory is_there next;
   making = new_directory a.attributes;
+  inode = λ parent. new_inode cred now parent (new_directory a.attributes);
+  whole = λ parent. directory-whole cred a now parent;
   body = λ ok. Mkdir ok;
 }
 

@@ -8,5 +8,3 @@ pub mod Grouped
 pub mod MakingRows
 pub mod LinkRows
 pub mod DirectoryRows
-pub mod Taken
-pub mod FileRows

@@ -17,11 +17,16 @@ use Rattle.fs_rules.specs.Rights.{may_write}
 use Rattle.fs_rules.specs.Tree.{Tree}
 use Rattle.fs_shows.specs.Files.{IsNew}
 use Rattle.procs_making.specs.declared.room.Room.{Room}
-use Rattle.procs_making.specs.Children.{node_by}
+use Rattle.procs_making.specs.Children.{new_inode, node_by}
 use Rattle.procs_making.specs.Plans.{link_check}
 use Rattle.procs_making.specs.Rooms.{free_check, name_check, node_check, room_found}
 use Rattle.procs_making.proofs.Grouped.{three-behind, found-then, grouped, is-free}
 use Rattle.procs_making.proofs.MakingRows.{Wanted, wanted-child, wanted-check, plan-in, rest-of, row-of}
+
+pub link-whole : (cred : Cred) (a : SymlinkArgs (List ℕ)) (now : Moment) (parent : ℕ)
+    → node_by (new_inode cred now parent (new_link a.attributes a.target)) ≡ new_node cred now parent (new_link a.attributes a.target)
+unfolding new_node
+link-whole cred a now parent = refl
 
 abbrev pub link-wanted : Cred → SymlinkArgs (List ℕ) → Moment → ℕ → Wanted
 link-wanted cred a now lane = record {
@@ -31,6 +36,8 @@ link-wanted cred a now lane = record {
   lane = lane;
   check = λ directory is_there next. link_check cred a directory is_there next;
   making = new_link a.attributes a.target;
+  inode = λ parent. new_inode cred now parent (new_link a.attributes a.target);
+  whole = λ parent. link-whole cred a now parent;
   body = λ ok. Symlink ok;
 }
 

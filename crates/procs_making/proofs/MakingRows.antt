@@ -13,11 +13,13 @@ use Rattle.fs_rules.specs.declared.place.Place.TheVariants.{Live}
 use Rattle.fs_rules.specs.declared.plans.NewPlan.{NewPlan}
 use Rattle.fs_rules.specs.Checks.{Check, Row, Done, ◌>>=◌, done}
 use Rattle.fs_rules.specs.Limits.{most_links}
-use Rattle.fs_rules.specs.Making.{Making, make_node, new_node, told_of_new}
+use Rattle.fs_rules.specs.Edits.{add_node, edit_node, give_number}
+use Rattle.fs_rules.specs.Making.{Making, gain_name, make_node, new_node, told_of_new}
 use Rattle.fs_rules.specs.Places.{Object, entry_at, fileid_at}
 use Rattle.fs_rules.specs.Sound.{IsSound}
 use Rattle.fs_rules.specs.Attributes.{attributes_of}
 use Rattle.fs_rules.specs.Tree.{Tree, Node, next_fileid}
+use Rattle.fs_keys.specs.declared.inode.Inode.{Inode as NewInode}
 use Rattle.fs_keys.specs.declared.rows.NameRow.{NameRow}
 use Rattle.fs_shows.specs.Files.{IsNew}
 use Rattle.fs_shows.specs.Nodes.{name_row}
@@ -35,7 +37,7 @@ use Rattle.procs_object.proofs.Gathering.{halts-by, refuses-by, edits-by, edit-h
 use Rattle.procs_object.proofs.Told.{object-place, object-inode}
 use Rattle.procs_making.specs.declared.child.NewNode.{NewNode}
 use Rattle.procs_making.specs.declared.room.Room.{Room}
-use Rattle.procs_making.specs.Children.{child_in, node_by, made_in, CanMake, told_new}
+use Rattle.procs_making.specs.Children.{child_of, node_by, made_in, CanMake, told_new}
 use Rattle.procs_making.specs.Rooms.{IsRoom, room_found}
 use Rattle.procs_making.proofs.Grouped.{mapped-some}
 use Rattle.procs_making.proofs.Placed.{can-make, links-fit, room-attributes, room-node, some-same, told-is}
@@ -52,11 +54,14 @@ pub record Wanted : Type 0 where
   pub lane : ℕ
   pub check : Inode → Bool → ℕ → Check (Unit {0})
   pub making : Making
+  -- the inode by the number of the directory, and that its node is the table's
+  pub inode : ℕ → NewInode
+  pub whole : (parent : ℕ) → node_by (inode parent) ≡ new_node cred now parent making
   pub body : CreateOk → Body
 
 module _ (q : Wanted) where
   abbrev pub wanted-child : Room → NewNode
-  wanted-child x = child_in q.cred q.now q.lane x q.making
+  wanted-child x = child_of q.now q.lane x (q.inode (fileid_at x.directory.place))
 
   -- the check of what was read
   abbrev pub wanted-check : Room → Check (Unit {0})
@@ -103,13 +108,16 @@ module _ (q : Wanted) where
       made-is : make_node q.cred q.now q.lane (wanted-child x).plan q.place.name q.making t
           ≡ made_in q.place.name (wanted-child x) t
       unfolding make_node new_node
-      made-is = refl
+      made-is =
+          let p : NewPlan = (wanted-child x).plan in
+          ap (λ (n : Node). edit_node p.directory (gain_name n.inode.kind q.place.name p.fileid q.now)
+          (add_node p.fileid n (give_number q.lane t))) (sym (q.whole (fileid_at x.directory.place)))
 
       module _ (place : IsPlaceFor q.place.name x.directory) (sound : IsSound t) (low : q.lane < 16) (free : x.entry ≡ None)
           (new : IsNew (wanted-child x).inode (node_by (wanted-child x).inode)) where
         -- a node can be made
         pub row-can : CanMake q.place.name (wanted-child x) t
-        row-can = can-make q.place.name q.lane t x o room place sound low free q.cred q.now q.making
+        row-can = can-make q.place.name q.lane t x o room place sound low free q.now (q.inode (fileid_at x.directory.place))
 
         -- its directory has the attributes that were read
         row-attributes : attributes_of t.fsid (wanted-child x).plan.directory row-can.add.node.inode

@@ -4,7 +4,6 @@ use Rattle.std.proofs.Common.{Option, Some, None, refl, sym, ap, subst, arith}
 use Rattle.std.specs.Prelude.{option_map}
 use Rattle.nfs3_types.specs.declared.attributes.Fattr.{Fattr}
 use Rattle.nfs3_types.specs.declared.body.CreateOk.{CreateOk}
-use Rattle.nfs3_types.specs.declared.cred.Cred.{Cred}
 use Rattle.nfs3_types.specs.declared.file_type.FileType.{FileType}
 use Rattle.nfs3_types.specs.declared.handle.Handle.{Handle}
 use Rattle.nfs3_types.specs.declared.moment.Moment.{Moment}
@@ -16,12 +15,13 @@ use Rattle.fs_rules.specs.Attributes.{attributes_of, is_directory, size_of, wcc_
 use Rattle.fs_rules.specs.Checks.{is_live}
 use Rattle.fs_rules.specs.Edits.{add_link, add_node, edit_node, give_number}
 use Rattle.fs_rules.specs.Limits.{most_links}
-use Rattle.fs_rules.specs.Making.{Making, gain_name, told_of_new}
+use Rattle.fs_rules.specs.Making.{gain_name, told_of_new}
 use Rattle.fs_rules.specs.Names.{named}
 use Rattle.fs_rules.specs.Places.{Object, attributes, entry_at, fileid_at, handle_at, names_of, node_at, object_at, object_by}
 use Rattle.fs_rules.specs.Places.{shown}
 use Rattle.fs_rules.specs.Sound.{IsDirectoryWithin, IsNodeWithin, IsOfKind, IsSound}
 use Rattle.fs_rules.specs.Tree.{Tree, Node}
+use Rattle.fs_keys.specs.declared.inode.Inode.{Inode}
 use Rattle.fs_shows.specs.Files.{IsNew, IsUngiven}
 use Rattle.fs_shows.specs.Nodes.{name_row}
 use Rattle.fs_shows.proofs.NameLists.{next-is-fresh}
@@ -29,7 +29,7 @@ use Rattle.procs_object.specs.Finding.{IsPlaceFor}
 use Rattle.procs_object.proofs.Handles.{attributes-by-inode}
 use Rattle.procs_making.specs.declared.child.NewNode.{NewNode}
 use Rattle.procs_making.specs.declared.room.Room.{Room}
-use Rattle.procs_making.specs.Children.{child_in, node_by, made_in, CanMake, gained_attributes, told_new}
+use Rattle.procs_making.specs.Children.{child_of, node_by, made_in, CanMake, gained_attributes, told_new}
 use Rattle.procs_making.specs.Rooms.{IsRoom}
 use Rattle.procs_making.proofs.Made.{child-apart}
 use Rattle.procs_making.proofs.Sounds.{added-elsewhere, added-here, at-elsewhere, at-here, kind-is, next-ungiven, node-has}
@@ -97,8 +97,8 @@ module _ (name : List ℕ) (lane : ℕ) (t : Tree) (x : Room) (o : Object) (room
     name-free = sym entry-there ∙ map-none name_row (entry_at t o.place name) (room.entry ∙ free)
 
     -- a node can be made there
-    pub can-make : (cred : Cred) (now : Moment) (m : Making) → CanMake name (child_in cred now lane x m) t
-    can-make cred now m = record {
+    pub can-make : (now : Moment) (inode : Inode) → CanMake name (child_of now lane x inode) t
+    can-make now inode = record {
       ungiven = subst (λ (id : ℕ). IsUngiven id t) room.next (next-ungiven t lane low sound.bounds);
       give = record { has = omega (arith, low, sound.bounds.lanes); most = (sound.bounds.next lane low).most };
       add = record {

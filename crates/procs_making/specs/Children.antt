@@ -6,8 +6,8 @@ use Rattle.nfs3_types.specs.declared.cred.Cred.{Cred}
 use Rattle.nfs3_types.specs.declared.file_type.FileType.{FileType}
 use Rattle.nfs3_types.specs.declared.moment.Moment.{Moment}
 use Rattle.nfs3_types.specs.Handles.{handle}
-use Rattle.fs_rules.specs.Attributes.{attributes_of, is_directory, size_of, wcc_of}
-use Rattle.fs_rules.specs.Edits.{add_node, edit_node, give_number}
+use Rattle.fs_rules.specs.Attributes.{attributes_of, is_directory, is_file, size_of, wcc_of}
+use Rattle.fs_rules.specs.Edits.{add_node, edit_node, give_number, zeros}
 use Rattle.fs_rules.specs.Making.{Making, gain_name, new_node}
 use Rattle.fs_rules.specs.Places.{fileid_at}
 use Rattle.fs_rules.specs.Tree.{Tree, Node}
@@ -24,20 +24,26 @@ new_inode cred now parent m =
     let kept = (new_node cred now parent m).inode in
     record { head = record { kept = kept; size = size_of kept (length m.content); floor = 0 }; target = m.content }
 
--- a new node, where there is this room
-abbrev pub child_in : Cred → Moment → ℕ → Room → Making → NewNode
-child_in cred now lane room m =
-    let directory = fileid_at room.directory.place in
-    record {
-      lane = lane;
-      plan = record { directory = directory; fileid = room.next };
-      inode = new_inode cred now directory m;
-      moment = now;
-    }
+-- a new node of this inode, where there is this room
+abbrev pub child_of : Moment → ℕ → Room → Inode → NewNode
+child_of now lane room inode = record {
+  lane = lane;
+  plan = record { directory = fileid_at room.directory.place; fileid = room.next };
+  inode = inode;
+  moment = now;
+}
 
--- the node of an inode that has no bytes but a link's path, and no names
+-- and of what is to be made
+abbrev pub child_in : Cred → Moment → ℕ → Room → Making → NewNode
+child_in cred now lane room m = child_of now lane room (new_inode cred now (fileid_at room.directory.place) m)
+
+-- the zeros of a file of this size, and a link's path
+abbrev pub content_by : Inode → List ℕ
+content_by i = if is_file i.head.kept.kind then zeros i.head.size else i.target
+
+-- the node of an inode that has no bytes but zeros or a link's path, and no names
 abbrev pub node_by : Inode → Node
-node_by i = record { inode = i.head.kept; content = i.target; names = [] }
+node_by i = record { inode = i.head.kept; content = content_by i; names = [] }
 
 -- ---- the edit
 

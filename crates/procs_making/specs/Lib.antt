@@ -1,4 +1,3 @@
 pub mod Rooms
 pub mod Children
 pub mod Plans
-pub mod Taking

@@ -10,14 +10,13 @@
 mod checks;
 mod child;
 mod directories;
-mod files;
 mod links;
 mod making;
 mod room;
 
+pub use checks::check_node;
 pub use child::{Making, NewNode, child_in};
 pub use directories::mkdir;
-pub use files::create;
 pub use links::symlink;
 pub use making::{make_and_tell, make_in};
 pub use room::{Room, find_room};

@@ -19,17 +19,14 @@ returns-in-Write g c =
     rw c.in-Write.is (ends-so g.P.Pairs.told _ _ 6 9 _ _ _ (omega arith) c.stopped.ensures c.write.ensures)
 
 pub create-requires-clause-live : goal.create-requires-clause-live
-create-requires-clause-live g c = (subst IsBuilt c.in-Create.is c.requires.built).0
+create-requires-clause-live g c = subst IsBuilt c.in-Create.is c.requires.built
 
 pub create-requires-clause-lane : goal.create-requires-clause-lane
 create-requires-clause-lane g c = c.requires.lane
 
-pub create-requires-clause-no_size : goal.create-requires-clause-no_size
-create-requires-clause-no_size g c = (subst IsBuilt c.in-Create.is c.requires.built).1
-
 pub returns-in-Create : goal.returns-in-Create
 returns-in-Create g c =
-    rw c.in-Create.is (ends-so g.P.Pairs.told _ _ 5 9 _ _ _ (omega arith) c.stopped-in-Create.ensures c.create.ensures)
+    rw c.in-Create.is (waits-more g.P.Pairs.told _ _ 5 9 _ _ (omega arith) c.create.ensures)
 
 pub mkdir-requires-clause-live : goal.mkdir-requires-clause-live
 mkdir-requires-clause-live g c = subst IsBuilt c.in-Mkdir.is c.requires.built

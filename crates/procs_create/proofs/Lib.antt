@@ -1,0 +1,4 @@
+pub mod Zeros
+pub mod Taken
+pub mod FileRows
+pub mod Takes
