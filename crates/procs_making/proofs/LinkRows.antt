@@ -24,7 +24,8 @@ use Rattle.procs_making.proofs.Grouped.{three-behind, found-then, grouped, is-fr
 use Rattle.procs_making.proofs.MakingRows.{Wanted, wanted-child, wanted-check, plan-in, rest-of, row-of}
 
 pub link-whole : (cred : Cred) (a : SymlinkArgs (List ℕ)) (now : Moment) (parent : ℕ)
-    → node_by (new_inode cred now parent (new_link a.attributes a.target)) ≡ new_node cred now parent (new_link a.attributes a.target)
+    → node_by (new_inode cred now parent (new_link a.attributes a.target))
+    ≡ new_node cred now parent (new_link a.attributes a.target)
 unfolding new_node
 link-whole cred a now parent = refl
 
