@@ -1,22 +1,20 @@
 -- A view by the number of the epoch sees what is live: each life was born by then, and what is dead died by then.
-use Rattle.std.proofs.Common.{◌≡◌, ◌≢◌, ℕ, ◌/◌, ◌%◌, ◌^◌, ◌<◌, ◌≤◌, inl, inr, List, [], ◌∷◌, Option, Some, None, refl, sym, ◌∙◌, ap}
+use Rattle.std.proofs.Common.{◌≡◌, ◌≢◌, ℕ, ◌/◌, ◌%◌, ◌<◌, inl, inr, List, [], ◌∷◌, Option, Some, None, refl, sym, ◌∙◌, ap}
 use Rattle.std.proofs.Common.{subst, arith}
 use Rattle.std.proofs.lemmas.Grind.{common_steps}
-use Rattle.std.specs.Prelude.{⊤, slice_index_or, option_map, option_and_then, unwrap_or, length}
+use Rattle.std.specs.Prelude.{slice_index_or, option_map, option_and_then, unwrap_or}
 use Rattle.pairs.specs.declared.at.At.{At}
 use Rattle.pairs.specs.declared.at.At.TheVariants.{Live, Snap}
 use Rattle.pairs.specs.Lives.{Life, never, seen, AreLives}
 use Rattle.pairs.specs.Versions.{Versions, HasLives, epoch}
-use Rattle.fs_rules.specs.Limits.{longest_name}
 use Rattle.fs_rules.specs.Names.{named}
 use Rattle.fs_rules.specs.Places.{names_of}
 use Rattle.fs_rules.specs.Tree.{Nodes, Node}
 use Rattle.fs_keys.specs.declared.key_parts.KeyParts.TheVariants.{Inode, Name, Cookie, Extent}
-use Rattle.fs_keys.specs.Keys.{Parts, HasBounds, key_of}
+use Rattle.fs_keys.specs.Keys.{Parts, key_of}
 use Rattle.fs_keys.specs.Values.{extent_in, name_in, cookie_in}
 use Rattle.fs_shows.specs.Extents.{Marks, counted, slot_of, row, block_size, block_slot, byte_at, ShowsContent}
 use Rattle.fs_shows.specs.Nodes.{Holds, ShowsInode, ShowsNodes, marks_of, bytes_of, name_row, cookie_row, numbered}
-use Rattle.fs_shows.proofs.Apart.{short-name}
 
 pub seen-now : (n from : ℕ) (ls : List Life) → n < never → AreLives n from ls → seen (Snap n) ls ≡ seen Live ls
 unfolding AreLives

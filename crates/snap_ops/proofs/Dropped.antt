@@ -1,8 +1,8 @@
 -- A snapshot is dropped: its name is no more, and all that was shown of others is shown on.
-use Rattle.std.proofs.Common.{◌≡◌, ◌≢◌, ℕ, ◌+◌, ◌^◌, ◌<◌, Bool, true, false, not, List, [], ◌∷◌, Option, Some, None, refl, sym, ◌∙◌}
+use Rattle.std.proofs.Common.{◌≡◌, ◌≢◌, ℕ, ◌+◌, ◌^◌, ◌<◌, not, List, Option, Some, None, refl, sym, ◌∙◌}
 use Rattle.std.proofs.Common.{ap, subst, arith}
 use Rattle.std.proofs.lemmas.List.Elements.{All-filter, All-weaker}
-use Rattle.std.specs.Prelude.{⊤, All, filter, map, option_map}
+use Rattle.std.specs.Prelude.{All, filter, map, option_map}
 use Rattle.std.specs.Str.{bytes_eq}
 use Rattle.nfs3_types.specs.declared.moment.Moment.{Moment}
 use Rattle.pairs.specs.declared.at.At.TheVariants.{Live, Snap}
@@ -14,11 +14,11 @@ use Rattle.fs_rules.specs.Places.{snapshot_entry}
 use Rattle.fs_rules.specs.Snapshots.{drop_named, touch_times}
 use Rattle.fs_rules.specs.Tree.{Tree, Snapshot}
 use Rattle.fs_keys.specs.declared.key_parts.KeyParts.TheVariants as key
-use Rattle.fs_keys.specs.Keys.{Parts, HasBounds, key_of}
-use Rattle.fs_keys.specs.Values.{first_in, times_in}
+use Rattle.fs_keys.specs.Keys.{key_of}
+use Rattle.fs_keys.specs.Values.{times_in}
 use Rattle.fs_shows.specs.Extents.{row}
-use Rattle.fs_shows.specs.Nodes.{Holds, ShowsNodes, numbered}
-use Rattle.fs_shows.specs.Shows.{Shows, first_of}
+use Rattle.fs_shows.specs.Nodes.{ShowsNodes, numbered}
+use Rattle.fs_shows.specs.Shows.{Shows}
 use Rattle.fs_shows.proofs.Apart.{Differ, keys-apart, each-number}
 use Rattle.fs_shows.proofs.NameLists.{IsAlone, alone-names, without, numbered-dropped, numbered-left}
 use Rattle.fs_shows.proofs.Rewriting.{keeps-put, keeps-del, row-put, row-put-other, row-del, row-del-other}

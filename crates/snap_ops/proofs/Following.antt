@@ -1,8 +1,8 @@
 -- What follows the key of a snapshot's number says which snapshot follows the number.
-use Rattle.std.proofs.Common.{◌≡◌, ◌≢◌, ℕ, ◌+◌, ◌<◌, ◌≤◌, ◌^◌, ◌==◌, ◌||◌, Bool, true, false, if◌then◌else◌, List, [], ◌∷◌, ◌++◌}
+use Rattle.std.proofs.Common.{◌≡◌, ◌≢◌, ℕ, ◌+◌, ◌<◌, ◌≤◌, ◌^◌, ◌==◌, Bool, true, false, if◌then◌else◌, List, [], ◌∷◌}
 use Rattle.std.proofs.Common.{length, Option, Some, None, ◌⊎◌, inl, inr, refl, sym, ◌∙◌, ap, subst, arith}
 use Rattle.std.proofs.lemmas.Bool.{cases_order, ltb-false}
-use Rattle.std.specs.Prelude.{All, find, map, nat_lt, option_map, option_and_then, IfSome}
+use Rattle.std.specs.Prelude.{find, map, nat_lt, option_map, option_and_then, IfSome}
 use Rattle.byteorder.specs.Endian.{big_bytes}
 use Rattle.xdr_grammar.specs.Laws.{AreBytes}
 use Rattle.pair_types.specs.declared.fault.PairFault.{PairFault}
@@ -12,7 +12,6 @@ use Rattle.pairs.specs.Found.{IsBefore, IsNext, Follows}
 use Rattle.pairs.specs.Lives.{Life, seen}
 use Rattle.pairs.specs.Told.{PairsTold, Tells}
 use Rattle.pairs.specs.Versions.{Versions, value_at}
-use Rattle.nfs3_types.specs.declared.status.Status.{Status}
 use Rattle.fs_rules.specs.declared.name_entry.NameEntry.{NameEntry}
 use Rattle.fs_rules.specs.Limits.{last_epoch, longest_name}
 use Rattle.nfs3_types.specs.declared.status.Status.TheVariants.{Inval, NameTooLong}

@@ -1,6 +1,6 @@
 -- Records of snapshots change, and all others stay: so does what is shown of them.
-use Rattle.std.proofs.Common.{◌≡◌, ◌≢◌, ℕ, ◌<◌, ◌≤◌, ◌^◌, Bool, true, false, List, [], Option, Some, None, refl, sym, ◌∙◌, ap}
-use Rattle.std.proofs.Common.{subst, arith}
+use Rattle.std.proofs.Common.{◌≡◌, ◌≢◌, ℕ, ◌<◌, ◌≤◌, ◌^◌, true, false, List, [], Option, Some, None, refl, sym, ◌∙◌, ap}
+use Rattle.std.proofs.Common.{subst}
 use Rattle.std.specs.Prelude.{⊤, ◌+◌, map, option_map, option_and_then, slice_get, IfSome, All, Contains}
 use Rattle.pair_types.specs.declared.slot.Slot.{Slot}
 use Rattle.pairs.specs.declared.at.At.{At}
@@ -19,7 +19,7 @@ use Rattle.fs_keys.specs.Keys.{Parts, HasBounds, key_of, parts_of}
 use Rattle.fs_keys.specs.Values.{first_in, lane_in, extent_in, times_in}
 use Rattle.fs_shows.specs.Extents.{Marks, slot_of, IsPlace, row, extent_at}
 use Rattle.fs_shows.specs.Nodes.{Holds, ShowsNodes, marks_of, numbered}
-use Rattle.fs_shows.specs.Shows.{NamesBlock, IsExtent, KeepsBlocks, MarksStale, IsWithin, ShowsRows, Shows, first_of}
+use Rattle.fs_shows.specs.Shows.{IsExtent, KeepsBlocks, MarksStale, IsWithin, Shows, first_of}
 use Rattle.fs_shows.specs.Shows.{live_marks, counts_by}
 use Rattle.fs_shows.proofs.Apart.{keys-apart, outside-apart}
 use Rattle.fs_shows.proofs.Rewriting.{IsFileRow, lives-put-other, lives-del-other, nodes-carried}

@@ -1,15 +1,14 @@
 -- Snapshots are read one after another, by rising number.
-use Rattle.std.proofs.Common.{◌≡◌, ◌≢◌, ℕ, ◌+◌, ◌==◌, ◌<◌, ◌≤◌, Bool, true, false, if◌then◌else◌, List, [], ◌∷◌, ◌++◌, length}
+use Rattle.std.proofs.Common.{◌≡◌, ℕ, ◌+◌, ◌<◌, ◌≤◌, Bool, true, false, if◌then◌else◌, List, [], ◌∷◌, ◌++◌, length}
 use Rattle.std.proofs.Common.{append_assoc, Option, Some, None, refl, sym, ◌∙◌, ap, subst, arith}
 use Rattle.std.proofs.lemmas.Bool.{lt-ltb, ltb-true, ltb-false}
 use Rattle.std.proofs.lemmas.List.{append-nil, length-append}
-use Rattle.std.specs.Prelude.{filter, find, map, nat_lt}
+use Rattle.std.specs.Prelude.{filter, nat_lt}
 use Rattle.pair_types.specs.declared.fault.PairFault.{PairFault}
-use Rattle.pair_types.specs.declared.fault.PairFault.TheVariants.{Odd, HeightFull, Page}
+use Rattle.pair_types.specs.declared.fault.PairFault.TheVariants.{Odd}
 use Rattle.pairs.specs.Told.{PairsTold, Goes}
 use Rattle.fs_rules.specs.declared.name_entry.NameEntry.{NameEntry}
 use Rattle.fs_rules.specs.Limits.{most_snapshots}
-use Rattle.fs_rules.specs.Places.{snapshot_entry}
 use Rattle.fs_rules.specs.Sound.{IsSound, Rise}
 use Rattle.fs_rules.specs.Tree.{Tree}
 use Rattle.fs_shows.specs.Steps.{Reads, GivesUpOn}
@@ -80,7 +79,7 @@ names-behind cookie least next (x ∷ names) rise =
         let less : cookie < x.cookie = ltb-true cookie x.cookie at in (
           less,
           rw at (ap (λ (l : List NameEntry). x ∷ l)
-          (all-behind cookie (x.cookie + 1) next names (omega (arith, less)) rise.1 ∙ sym own)),
+              (all-behind cookie (x.cookie + 1) next names (omega (arith, less)) rise.1 ∙ sym own)),
         )
     by_test false at more = passed (next_entry cookie names) (ltb-false cookie x.cookie at) more at
 

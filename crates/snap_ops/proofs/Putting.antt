@@ -1,5 +1,5 @@
 -- The records of snapshots as they are put: how long their values are, and what the puts do behind one another.
-use Rattle.std.proofs.Common.{◌≡◌, ◌≢◌, ℕ, ◌+◌, ◌^◌, ◌<◌, ◌≤◌, inl, inr, List, [], ◌∷◌, length, Option, Some, None, Result, Ok, Err}
+use Rattle.std.proofs.Common.{◌≡◌, ℕ, ◌+◌, ◌^◌, ◌<◌, ◌≤◌, inl, inr, List, length, Some, Result, Ok, Err}
 use Rattle.std.proofs.Common.{refl, sym, ◌∙◌, ap, subst, arith}
 use Rattle.std.specs.Prelude.{⊤}
 use Rattle.nfs3_types.specs.Count.{Rose}
@@ -25,7 +25,7 @@ use Rattle.fs_keys.specs.declared.rows.First.{First}
 use Rattle.fs_keys.specs.Keys.{key_of}
 use Rattle.fs_keys.specs.Values.{first, times, ok_of, said_by, first_in, times_in}
 use Rattle.fs_keys.proofs.ValueLaws.{first-laws, times-laws}
-use Rattle.fs_shows.specs.Shows.{Shows, first_of}
+use Rattle.fs_shows.specs.Shows.{first_of}
 use Rattle.fs_shows.specs.Steps.{Lies, Learns, Edits, Reads, EditGivesUp}
 use Rattle.fs_shows.proofs.Doing.{goes-then}
 use Rattle.fs_shows.proofs.Rewriting.{keeps-put}

@@ -1,39 +1,36 @@
 -- A snapshot is taken: the view by its number sees what was live, and all that was shown is shown on.
-use Rattle.std.proofs.Common.{◌≡◌, ◌≢◌, ℕ, ◌+◌, ◌==◌, ◌^◌, ◌<◌, ◌≤◌, Bool, true, false, List, [], ◌∷◌, ◌++◌, length, take}
-use Rattle.std.proofs.Common.{Option, Some, None, refl, sym, ◌∙◌, ap, subst, arith, if◌then◌else◌}
+use Rattle.std.proofs.Common.{◌≡◌, ◌≢◌, ℕ, ◌+◌, ◌==◌, ◌^◌, ◌<◌, ◌≤◌, Bool, true, false, List, [], ◌∷◌, ◌++◌, length}
+use Rattle.std.proofs.Common.{Some, None, refl, sym, ◌∙◌, ap, subst, arith, if◌then◌else◌}
 use Rattle.std.proofs.lemmas.Bool.{le-ltb, eqb-true}
 use Rattle.std.proofs.lemmas.List.{map-append}
 use Rattle.std.proofs.lemmas.List.Elements.{All-push, All-weaker}
 use Rattle.std.proofs.lemmas.Nat.{from_be_bytes-to_be_bytes_8}
-use Rattle.std.specs.Prelude.{⊤, All, map, nat_lt, option_map}
+use Rattle.std.specs.Prelude.{All, map, nat_lt, option_map}
 use Rattle.byteorder.specs.Endian.{big_bytes}
 use Rattle.xdr_grammar.specs.Items.{hyper, fixed}
 use Rattle.nfs3_types.specs.declared.moment.Moment.{Moment}
-use Rattle.pairs.specs.declared.at.At.{At}
 use Rattle.pairs.specs.declared.at.At.TheVariants.{Live, Snap}
 use Rattle.pairs.specs.Lives.{never}
 use Rattle.pairs.specs.Versions.{Versions, HasLives, CanPut, epoch, epoch_in, epoch_key, with_put}
 use Rattle.pairs.proofs.VersionsLaws.{live-put, others-put, has-put}
 use Rattle.fs_rules.specs.declared.name_entry.NameEntry.{NameEntry}
-use Rattle.fs_rules.specs.declared.times.Times.{Times}
-use Rattle.fs_rules.specs.Limits.{last_epoch, longest_name}
 use Rattle.fs_rules.specs.Places.{snapshot_entry}
 use Rattle.fs_rules.specs.Snapshots.{add_snapshot, touch_times}
 use Rattle.fs_rules.specs.Tree.{Tree, Snapshot}
 use Rattle.fs_keys.specs.declared.key_parts.KeyParts.TheVariants as key
 use Rattle.fs_keys.specs.declared.rows.First.{First}
-use Rattle.fs_keys.specs.Keys.{Parts, HasBounds, key_of}
+use Rattle.fs_keys.specs.Keys.{key_of}
 use Rattle.fs_keys.specs.Values.{first, first_in, times_in}
 use Rattle.fs_shows.specs.Extents.{row}
 use Rattle.fs_shows.specs.Nodes.{ShowsNodes, numbered}
-use Rattle.fs_shows.specs.Shows.{Shows, first_of}
+use Rattle.fs_shows.specs.Shows.{Shows}
 use Rattle.fs_shows.proofs.Apart.{Differ, keys-apart, each-number}
 use Rattle.fs_shows.proofs.NameLists.{all-tail, numbered-added, numbered-beside}
 use Rattle.fs_shows.proofs.Rewriting.{keeps-put, row-put, row-put-other}
 use Rattle.snap_ops.specs.Taking.{IsNow, Rises, with_snapshot}
 use Rattle.snap_ops.proofs.Copying.{row-now, nodes-viewed}
 use Rattle.snap_ops.proofs.Entries.{names-held}
-use Rattle.snap_ops.proofs.Leaving.{Leaves, leaves-none, leaves-put, nodes-left, resnapped, ShowsSnapshots, shows-left}
+use Rattle.snap_ops.proofs.Leaving.{Leaves, leaves-none, leaves-put, nodes-left, shows-left}
 
 -- ---- the epoch of a first record
 

@@ -1,6 +1,5 @@
 -- The key says the number, and the value the name.
-use Rattle.std.proofs.Common.{◌≡◌, sym, ◌∙◌, ap, inl, inr, refl, arith}
-use Rattle.fs_rules.specs.declared.name_entry.NameEntry.{NameEntry}
+use Rattle.std.proofs.Common.{sym, ◌∙◌, ap, inl, arith}
 use Rattle.snap_ops.specs.Listing.{number_at}
 use Rattle.snap_ops.proofs.listing.entry_said.Goals as goal
 

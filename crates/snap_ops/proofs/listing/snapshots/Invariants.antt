@@ -1,5 +1,5 @@
 -- So far these entries were read.
-use Rattle.std.proofs.Common.{ℕ, ◌-◌, length}
+use Rattle.std.proofs.Common.{◌-◌, length}
 use Rattle.snap_ops.proofs.Listed.{HasRead}
 use Rattle.snap_ops.proofs.listing.snapshots.Given as goal
 

@@ -1,5 +1,5 @@
 -- The first record and the times are read, and then the records of the snapshot are put.
-use Rattle.std.proofs.Common.{◌≡◌, ◌<◌, ◌≤◌, ℕ, subst, sym, arith}
+use Rattle.std.proofs.Common.{◌≡◌, subst, arith}
 use Rattle.std.specs.Prelude.{⊤}
 use Rattle.fs_rules.specs.declared.times.Times.{Times}
 use Rattle.fs_rules.specs.Limits.{last_epoch}

@@ -1,5 +1,5 @@
 -- The value of the first record is put, and begins with its epoch.
-use Rattle.std.proofs.Common.{◌≡◌, ◌≤◌, sym, length, List, ℕ, subst}
+use Rattle.std.proofs.Common.{◌≤◌, sym, length, List, ℕ, subst}
 use Rattle.std.proofs.lemmas.Result.{on_ok_weaker, IfErr-weaker}
 use Rattle.snap_ops.proofs.Putting.{first-short, puts-first, first-up}
 use Rattle.snap_ops.proofs.taking.put_first.Goals as goal

@@ -1,7 +1,6 @@
 -- Three records are put, one behind another.
-use Rattle.std.proofs.Common.{◌≡◌, ◌+◌, ◌<◌, ◌≤◌, ℕ, length, arith}
+use Rattle.std.proofs.Common.{arith}
 use Rattle.std.proofs.lemmas.Result.{on_ok_weaker, IfErr-weaker}
-use Rattle.pairs.specs.Lives.{never}
 use Rattle.fs_rules.specs.Limits.{last_epoch, longest_name}
 use Rattle.snap_ops.proofs.Putting.{puts-snapshot, risen-up, timed-up}
 use Rattle.snap_ops.proofs.taking.put_snapshot.Goals as goal

@@ -1,5 +1,5 @@
 -- The value of times is short.
-use Rattle.std.proofs.Common.{◌≡◌, ◌≤◌, sym, length, List, ℕ, subst}
+use Rattle.std.proofs.Common.{◌≤◌, sym, length, List, ℕ, subst}
 use Rattle.snap_ops.proofs.Putting.{times-short}
 use Rattle.snap_ops.proofs.taking.put_times.Goals as goal
 
