@@ -2,7 +2,6 @@
 
 ghost use Rattle.std.specs.Prelude.{◌<◌, ◌^◌, ◌≡◌};
 ghost use Rattle.fs_rules.specs.Making as table;
-ghost use Rattle.procs_object.specs.Finding.{IsOfLive};
 ghost use Rattle.procs_bytes.specs.Waiting.{PerformsOrWaits};
 
 use crate::making::{check_file, new_file};
@@ -24,8 +23,7 @@ pub fn create<P: Blocks>(
     now: Moment,
     lane: u8,
 ) -> Result<Body, Stop>
-    requires live { IsOfLive a.now.place.directory }
-    requires lane { lane < 16 }
+    requires { lane < 16 }
     ensures { PerformsOrWaits P.told pairs.old pairs.new 5 (λ t. table.create t cred.now a.now now lane) result }
 {
     let room = match find_room(alloc, pairs, cred, &a.place, lane) {

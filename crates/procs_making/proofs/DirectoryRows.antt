@@ -22,50 +22,14 @@ use Rattle.fs_rules.specs.Rights.{may_write}
 use Rattle.fs_rules.specs.Snapshots.{is_snapshot_directory, mkdir, take_snapshot}
 use Rattle.fs_rules.specs.Tree.{Tree, Node}
 use Rattle.fs_shows.specs.Files.{IsNew}
-use Rattle.procs_object.specs.Finding.{IsOfLive}
+use Rattle.procs_object.specs.Finding.{says_snapshots}
+use Rattle.procs_object.proofs.Saying.{place_says}
 use Rattle.procs_making.specs.declared.room.Room.{Room}
 use Rattle.procs_making.specs.Children.{new_inode, node_by}
 use Rattle.procs_making.specs.Plans.{directory_check}
 use Rattle.procs_making.specs.Rooms.{free_check, name_check, node_check, room_found}
 use Rattle.procs_making.proofs.Grouped.{checked-behind, found-then, grouped, is-free}
 use Rattle.procs_making.proofs.MakingRows.{Wanted, wanted-child, wanted-check, plan-in, rest-of, row-of}
-
--- ---- a handle of the live tree does not lead to `.snapshot`
-
-place-live : (h : Handle) → h.snapshot ≡ 0 → place_of h ≡ Live h.fileid
-unfolding place_of
-place-live h live =
-    ap (λ (b : Bool). if b then Live h.fileid
-    else (if (h.snapshot == no_snapshot) && (h.fileid == 2) then SnapshotDirectory else Kept h.snapshot h.fileid))
-    (eq-eqb h.snapshot 0 live)
-
--- what stands at a place of the live tree, in one branch of a test
-at-live : (t : Tree) (id : ℕ) (b : Bool) (n : Option Node) (o : Object) → node_at t (Live id) ≡ n
-    → some_or (if b then object_at t (Live id) else None) Stale ≡ Ok o → is_snapshot_directory o.place ≡ false
-unfolding object_at
-at-live t id true (Some n) o at is =
-    let found : Ok (object_by (Live id) n) ≡ Ok o =
-    sym (ap (λ (n : Option Node). some_or (option_map (object_by (Live id)) n) Stale) at) ∙ is in
-    let same : object_by (Live id) n ≡ o = cc in
-    ap (λ (o : Object). is_snapshot_directory o.place) (sym same)
-at-live t id true None o at is =
-    let found : Err Stale ≡ Ok o =
-    sym (ap (λ (n : Option Node). some_or (option_map (object_by (Live id)) n) Stale) at) ∙ is in
-    absurd (cc)
-at-live t id false n o at is = absurd (cc)
-
-by-handle : (t : Tree) (h : Option Handle) (o : Object) → IfSome h (λ h. h.snapshot ≡ 0)
-    → (some_or h BadHandle >>= (λ h. some_or (object_of t h) Stale)) ≡ Ok o → is_snapshot_directory o.place ≡ false
-unfolding object_of
-by-handle t (Some h) o live is =
-    at-live t h.fileid (h.fsid == t.fsid) (node_at t (Live h.fileid)) o refl
-    (sym (ap (λ (p : Place). some_or (if h.fsid == t.fsid then object_at t p else None) Stale) (place-live h live)) ∙ is)
-by-handle t None o live is = absurd (cc)
-
-pub not-snapshots : (t : Tree) (bytes : List ℕ) (o : Object) → IsOfLive bytes → find_object t bytes ≡ Ok o
-    → is_snapshot_directory o.place ≡ false
-unfolding find_object
-not-snapshots t bytes o live is = by-handle t (handle_in bytes) o live is
 
 -- ---- the row
 
@@ -88,7 +52,7 @@ directory-wanted cred a now lane = record {
 }
 
 module _ (cred : Cred) (a : MkdirArgs (List ℕ)) (now : Moment) (lane : ℕ) where
-  module _ (live : IsOfLive a.place.directory) (t : Tree) where
+  module _ (other : says_snapshots a.place.directory ≡ false) (t : Tree) where
     abbrev plan : Object → Check NewPlan
     plan o = plan-in (directory-wanted cred a now lane) t o
 
@@ -121,13 +85,13 @@ module _ (cred : Cred) (a : MkdirArgs (List ℕ)) (now : Moment) (lane : ℕ) wh
     outside : (o : Object) → is_snapshot_directory o.place ≡ false
         → by_place o ≡ finish (need_place_for o a.place.name >>= (λ _. steps o))
     unfolding make_directory make_directory_plan
-    outside o other =
-        ap (λ (b : Bool). if b then take_snapshot t cred a.place.name now else make_directory t cred a now lane o) other
+    outside o elsewhere =
+        ap (λ (b : Bool). if b then take_snapshot t cred a.place.name now else make_directory t cred a now lane o) elsewhere
 
     by-object : (c : Check Object) → find_object t a.place.directory ≡ c
         → (c >>= by_place) ≡ finish ((c >>= (λ o. need_place_for o a.place.name >>= (λ _. Ok o))) >>= steps)
     by-object (Ok o) is =
-        outside o (not-snapshots t a.place.directory o live is)
+        outside o (place_says t a.place.directory o false other is)
         ∙ ap finish (sym (checked-behind (need_place_for o a.place.name) (λ _. Ok o) steps))
     by-object (Err status) is = refl
 

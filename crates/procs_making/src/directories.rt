@@ -1,9 +1,9 @@
-//! MKDIR.
+//! MKDIR, outside of `.snapshot`.
 
-ghost use Rattle.std.specs.Prelude.{◌≡◌, ◌<◌, is_some};
+ghost use Rattle.std.specs.Prelude.{◌≡◌, ◌<◌, false, is_some};
 ghost use Rattle.fs_rules.specs.Making as making;
 ghost use Rattle.fs_rules.specs.Snapshots as table;
-ghost use Rattle.procs_object.specs.Finding.{IsOfLive};
+ghost use Rattle.procs_object.specs.Finding.{says_snapshots};
 ghost use Rattle.procs_object.specs.Performing.{Performs};
 ghost use Rattle.procs_making.specs.Children as children;
 ghost use Rattle.procs_making.specs.Plans.{directory_check};
@@ -48,7 +48,7 @@ fn new_directory(
     child_in(cred, now, lane, room, making)
 }
 
-/// MKDIR, whose new directory gets a number of this lane.
+/// MKDIR outside of `.snapshot`, whose new directory gets a number of this lane.
 #[tactic(none)]
 pub fn mkdir<P: Pairs>(
     alloc: Global,
@@ -58,7 +58,7 @@ pub fn mkdir<P: Pairs>(
     now: Moment,
     lane: u8,
 ) -> Result<Body, Halt>
-    requires live { IsOfLive a.now.place.directory }
+    requires outside { says_snapshots a.now.place.directory ≡ false }
     requires lane { lane < 16 }
     ensures { Performs P.told pairs.old pairs.new 5 (λ t. table.mkdir t cred.now a.now now lane) result }
 {

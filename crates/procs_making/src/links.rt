@@ -5,7 +5,6 @@ ghost use Rattle.fs_rules.specs.Limits.{longest_target};
 ghost use Rattle.fs_rules.specs.Making as table;
 ghost use Rattle.pair_types.specs.declared.fault.PairFault.TheVariants.{Page as PageCause};
 ghost use Rattle.pair_types.specs.PageState.{no_memory};
-ghost use Rattle.procs_object.specs.Finding.{IsOfLive};
 ghost use Rattle.procs_object.specs.Performing.{Performs};
 ghost use Rattle.procs_making.specs.Children as children;
 ghost use Rattle.procs_making.specs.Plans.{link_check};
@@ -71,8 +70,7 @@ pub fn symlink<P: Pairs>(
     now: Moment,
     lane: u8,
 ) -> Result<Body, Halt>
-    requires live { IsOfLive a.now.place.directory }
-    requires lane { lane < 16 }
+    requires { lane < 16 }
     ensures { Performs P.told pairs.old pairs.new 5 (λ t. table.symlink t cred.now a.now now lane) result }
 {
     let room = match find_room(alloc, pairs, cred, &a.place, lane) {

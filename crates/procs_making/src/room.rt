@@ -3,7 +3,7 @@
 ghost use Rattle.std.specs.Prelude.{◌<◌, IfOk};
 ghost use Rattle.fs_rules.specs.Sound.{IsSound};
 ghost use Rattle.pairs.specs.Told.{Goes};
-ghost use Rattle.procs_object.specs.Finding.{IsOfLive, IsPlaceFor, CheckedOn};
+ghost use Rattle.procs_object.specs.Finding.{IsPlaceFor, CheckedOn};
 ghost use Rattle.procs_making.specs.Rooms.{IsRoom, room_found};
 
 use crate::checks::check_name;
@@ -36,8 +36,7 @@ pub fn find_room<P: Pairs>(
     place: &DirOp<Text>,
     lane: u8,
 ) -> Result<Room, Halt>
-    requires live { IsOfLive place.now.directory }
-    requires lane { lane < 16 }
+    requires { lane < 16 }
     ensures goes { Goes P.told pairs.old pairs.new 0 }
     ensures check { CheckedOn P.told pairs.old pairs.new IsSound (IsRoom place.now.name lane)
         (λ t. room_found t cred.now place.now) result }

@@ -29,12 +29,13 @@ use Rattle.fs_rules.specs.Tree.{Snapshot, Tree, root_inode}
 use Rattle.fs_shows.proofs.NameLists.{all-tail}
 use Rattle.snap_ops.specs.Dropping.{IsNamed}
 use Rattle.procs_object.specs.declared.object.Found.{Found}
-use Rattle.procs_object.specs.Finding.{IsObject}
+use Rattle.procs_object.specs.Finding.{IsObject, says_snapshots}
 use Rattle.procs_object.proofs.Told.{object-place}
+use Rattle.procs_object.proofs.Saying.{place_says}
 use Rattle.procs_names.specs.declared.dropping.Dropping.{Dropping}
-use Rattle.procs_names.specs.Naming.{IsDropping, drop_check, fileid_of, need_droppable, says_snapshots}
+use Rattle.procs_names.specs.Naming.{IsDropping, drop_check, fileid_of, need_droppable}
 use Rattle.procs_names.specs.Readying.{touched_less}
-use Rattle.procs_names.proofs.Checked.{found_shown, place_says}
+use Rattle.procs_names.proofs.Checked.{found_shown}
 
 -- ---- what is asked
 

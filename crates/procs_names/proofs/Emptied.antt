@@ -25,12 +25,13 @@ use Rattle.fs_rules.specs.Snapshots.{drop_snapshot, is_snapshot_directory, rmdir
 use Rattle.fs_rules.specs.Sound.{IsSound}
 use Rattle.fs_rules.specs.Tree.{Node, Tree}
 use Rattle.procs_object.specs.declared.object.Found.{Found}
-use Rattle.procs_object.specs.Finding.{IsObject}
+use Rattle.procs_object.specs.Finding.{IsObject, says_snapshots}
 use Rattle.procs_object.proofs.Told.{object-inode, object-place}
+use Rattle.procs_object.proofs.Saying.{place_says}
 use Rattle.procs_names.specs.declared.removing.Removal.{Removal}
-use Rattle.procs_names.specs.Naming.{IsRemoval, child_at, need_alterable, need_removable_directory, removal_of, rmdir_plan, says_snapshots, seen}
+use Rattle.procs_names.specs.Naming.{IsRemoval, child_at, need_alterable, need_removable_directory, removal_of, rmdir_plan, seen}
 use Rattle.procs_names.specs.Readying.{CanRemoveDirectory, touched_less}
-use Rattle.procs_names.proofs.Checked.{place_says, child_named, find_steps, found_kind, found_node, found_place, live_shown}
+use Rattle.procs_names.proofs.Checked.{child_named, find_steps, found_kind, found_node, found_place, live_shown}
 use Rattle.procs_names.proofs.Checked.{place_in}
 use Rattle.procs_names.proofs.Readied.{can_remove_directory, dropped_elsewhere, edited_here, removed_other}
 use Rattle.procs_names.proofs.Rows.{lost_directory, shown_after}

@@ -139,14 +139,6 @@ pub record IsRemoval (name : List ℕ) (t : Tree) (x : Removal) (plan : RemovePl
 
 -- ---- RMDIR in `.snapshot`
 
--- the handle is that of `.snapshot`
-abbrev pub is_of_snapshots : Option Handle → Bool
-is_of_snapshots None = false
-is_of_snapshots (Some h) = is_snapshot_directory (place_of h)
-
-abbrev pub says_snapshots : List ℕ → Bool
-says_snapshots bytes = is_of_snapshots (handle_in bytes)
-
 -- what is asked before the name is looked up
 unfoldable pub need_droppable : Cred → List ℕ → Check (Unit {0})
 need_droppable cred name = do

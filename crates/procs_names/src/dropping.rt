@@ -2,23 +2,22 @@
 
 ghost use Rattle.std.specs.Prelude.{◌≡◌, true};
 ghost use Rattle.fs_rules.specs.Snapshots as table;
-ghost use Rattle.fs_rules.specs.Snapshots.{is_snapshot_directory};
 ghost use Rattle.fs_rules.specs.Sound.{IsSound};
 ghost use Rattle.pairs.specs.Told.{Goes};
-ghost use Rattle.procs_object.specs.Finding.{CheckedOn};
+ghost use Rattle.procs_object.specs.Finding.{CheckedOn, says_snapshots as says_it};
 ghost use Rattle.procs_object.specs.Performing.{Performs};
 ghost use Rattle.procs_names.specs.Naming as naming;
-ghost use Rattle.procs_names.specs.Naming.{IsDropping, drop_check, says_snapshots as says_it};
+ghost use Rattle.procs_names.specs.Naming.{IsDropping, drop_check};
 
 use crate::editing::touched_less;
 use crate::emptying::remove_named;
 use crate::ways::snapshot_named;
 use fs_rules::checks::{is_dot, is_dot_dot, need, need_good_name, refuse_if};
-use fs_rules::{Place, wcc_of};
+use fs_rules::wcc_of;
 use fs_shows::Halt;
-use nfs3_types::{Body, Cred, DirOp, Fattr, Handle, Moment, Status, Text};
+use nfs3_types::{Body, Cred, DirOp, Fattr, Moment, Status, Text};
 use pairs::Pairs;
-use procs_object::see;
+use procs_object::{says_snapshots, see};
 use snap_ops::drop_snap;
 use std::alloc::Global;
 
@@ -29,27 +28,6 @@ pub(crate) struct Dropping {
     pub(crate) number: u64,
     /// The attributes of the directory.
     pub(crate) directory: Fattr,
-}
-
-/// Whether it is `.snapshot`.
-fn is_snapshots(place: Place) -> bool
-    ensures { result ≡ is_snapshot_directory place }
-{
-    match place {
-        Place::Live(_) => false,
-        Place::SnapshotDirectory => true,
-        Place::Kept(_, _) => false,
-    }
-}
-
-/// Whether a handle is that of `.snapshot`.
-fn says_snapshots(handle: &[u8]) -> bool
-    ensures { result ≡ says_it handle.now }
-{
-    match Handle::of(handle) {
-        Some(h) => is_snapshots(Place::of(&h)),
-        None => false,
-    }
 }
 
 /// What RMDIR asks in `.snapshot` before the name is looked up.

@@ -5,10 +5,10 @@ ghost use Rattle.fs_rules.specs.Limits.{longest_name};
 ghost use Rattle.fs_rules.specs.Snapshots as table;
 ghost use Rattle.fs_rules.specs.Sound.{IsSound};
 ghost use Rattle.pairs.specs.Told.{Goes};
-ghost use Rattle.procs_object.specs.Finding.{CheckedOn};
+ghost use Rattle.procs_object.specs.Finding.{CheckedOn, says_snapshots};
 ghost use Rattle.procs_object.specs.Performing.{Performs};
 ghost use Rattle.procs_names.specs.Naming as naming;
-ghost use Rattle.procs_names.specs.Naming.{IsRemoval, rmdir_plan, says_snapshots, seen};
+ghost use Rattle.procs_names.specs.Naming.{IsRemoval, rmdir_plan, seen};
 
 use crate::checks::need_alterable;
 use crate::editing::{remove_directory, touched_less};

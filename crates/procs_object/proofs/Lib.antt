@@ -6,3 +6,4 @@ pub mod Ending
 pub mod Told
 pub mod Set
 pub mod Places
+pub mod Saying

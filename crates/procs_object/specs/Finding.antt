@@ -1,5 +1,6 @@
 -- What a handle leads to, as records tell it.
-use Rattle.std.specs.Prelude.{ℕ, ◌≡◌, ◌≤◌, ⊤, true, List, [], length, Option, Some, None, Result, Ok, Err, IfSome}
+use Rattle.std.specs.Prelude.{ℕ, ◌≡◌, ◌≤◌, ⊤, Bool, true, false, List, [], length, Option, Some, None, Result, Ok, Err}
+use Rattle.nfs3_types.specs.declared.handle.Handle.{Handle}
 use Rattle.nfs3_types.specs.Handles.{handle_in}
 use Rattle.fs_rules.specs.declared.inode.Inode.{Inode as Kept}
 use Rattle.fs_rules.specs.declared.place.Place.{Place}
@@ -7,7 +8,8 @@ use Rattle.fs_rules.specs.declared.place.Place.TheVariants.{SnapshotDirectory}
 use Rattle.fs_rules.specs.Attributes.{is_directory, attributes_of}
 use Rattle.fs_rules.specs.Checks.{Check, is_live}
 use Rattle.fs_rules.specs.Limits.{longest_name}
-use Rattle.fs_rules.specs.Places.{Object, object_by, node_at, attributes}
+use Rattle.fs_rules.specs.Places.{Object, object_by, node_at, attributes, place_of}
+use Rattle.fs_rules.specs.Snapshots.{is_snapshot_directory}
 use Rattle.fs_rules.specs.Sound.{IsSound}
 use Rattle.fs_rules.specs.Tree.{Tree, Node}
 use Rattle.pairs.specs.Told.{PairsTold}
@@ -20,9 +22,13 @@ use Rattle.fs_shows.specs.Steps.{Reads, GivesUpOn}
 use Rattle.procs_object.specs.declared.object.Begun.{Begun}
 use Rattle.procs_object.specs.declared.object.Found.{Found}
 
--- a handle of the live tree, or one that is none of this service's
-abbrev pub IsOfLive : List ℕ → Type 0
-IsOfLive handle = IfSome (handle_in handle) (λ h. h.snapshot ≡ 0)
+-- the handle is that of `.snapshot`
+abbrev pub is_of_snapshots : Option Handle → Bool
+is_of_snapshots None = false
+is_of_snapshots (Some h) = is_snapshot_directory (place_of h)
+
+abbrev pub says_snapshots : List ℕ → Bool
+says_snapshots bytes = is_of_snapshots (handle_in bytes)
 
 -- the tree is sound, and this is its first record
 pub record Begins (row : First) (t : Tree) : Type 0 where

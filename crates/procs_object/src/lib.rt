@@ -14,6 +14,6 @@ mod snapshot;
 mod telling;
 
 pub use naming::{above, beside, find_directory, need_place_for};
-pub use object::{Begun, Found, find_child, find_object, find_place, is_of_live, look, see};
+pub use object::{Begun, Found, find_child, find_object, find_place, look, says_snapshots, see};
 pub use setting::set_attr;
 pub use telling::{access, fs_info, fs_stat, get_attr, path_conf, read_link};

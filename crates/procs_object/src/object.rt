@@ -1,6 +1,6 @@
 //! What handles lead to, and file numbers.
 
-ghost use Rattle.std.specs.Prelude.{◌≡◌, ◌↔◌, IsTrue, IfSome, IfOk, IfErr};
+ghost use Rattle.std.specs.Prelude.{◌≡◌, IfSome, IfOk, IfErr};
 ghost use Rattle.fs_rules.specs.Checks.{find_object as object_found};
 ghost use Rattle.fs_rules.specs.Places.{leads_to};
 ghost use Rattle.fs_rules.specs.Tree.{Tree};
@@ -8,7 +8,8 @@ ghost use Rattle.fs_rules.specs.declared.place.Place.TheVariants.{Live as LivePl
 ghost use Rattle.fs_rules.specs.Sound.{IsSound};
 ghost use Rattle.pairs.specs.Told.{Goes};
 ghost use Rattle.fs_shows.specs.Steps.{Reads, GivesUpOn};
-ghost use Rattle.procs_object.specs.Finding.{IsOfLive, Begins, IsBegun, IsObject, IsLed, CheckedOn};
+ghost use Rattle.fs_rules.specs.Snapshots.{is_snapshot_directory};
+ghost use Rattle.procs_object.specs.Finding.{Begins, IsBegun, IsObject, IsLed, CheckedOn, says_snapshots as says_it};
 
 use crate::snapshot::{find_kept, find_snapshots};
 use fs_keys::{First, Inode};
@@ -40,13 +41,24 @@ pub struct Begun {
     pub found: Found,
 }
 
-/// Whether a handle is one of the live tree, or none of this service's.
-pub fn is_of_live(handle: &[u8]) -> bool
-    ensures { IsTrue result ↔ IsOfLive handle.now }
+/// Whether it is `.snapshot`.
+fn is_snapshots(place: Place) -> bool
+    ensures { result ≡ is_snapshot_directory place }
+{
+    match place {
+        Place::Live(_) => false,
+        Place::SnapshotDirectory => true,
+        Place::Kept(_, _) => false,
+    }
+}
+
+/// Whether a handle is that of `.snapshot`.
+pub fn says_snapshots(handle: &[u8]) -> bool
+    ensures { result ≡ says_it handle.now }
 {
     match Handle::of(handle) {
-        Some(h) => h.snapshot == 0,
-        None => true,
+        Some(h) => is_snapshots(Place::of(&h)),
+        None => false,
     }
 }
 

@@ -23,11 +23,8 @@ use Rattle.procs_create.proofs.Takes.{next-halts, taking-ends}
 use Rattle.procs_create.proofs.Zeros.{file-new}
 use Rattle.procs_create.proofs.files.create.Goals as goal
 
-pub find_room-requires-clause-live : goal.find_room-requires-clause-live
-find_room-requires-clause-live g c = c.requires.live
-
-pub find_room-requires-clause-lane : goal.find_room-requires-clause-lane
-find_room-requires-clause-lane g c = c.requires.lane
+pub find_room-requires : goal.find_room-requires
+find_room-requires g c = c.requires
 
 pub returns-in-Err : goal.returns-in-Err
 returns-in-Err g c =
@@ -119,7 +116,7 @@ returns-in-Ok-make_and_tell g c =
     (making-done g.P.Pairs.told q row x
     (λ t found. file-goes_on c.args.cred.now c.args.a.now c.args.now c.args.lane t x found.0 found.1 found.2 c.in_default.is)
     c.args.pairs.now c.find_room.new.pairs c.make_and_tell.new.pairs c.find_room.ensures.goes c.make_and_tell.ensures.goes
-    c.in-Ok.ensures.check c.in-Ok.ensures.place c.requires.lane c.in_default.is
+    c.in-Ok.ensures.check c.in-Ok.ensures.place c.requires c.in_default.is
     (file-new c.args.cred.now c.args.now c.args.a.now.how _) c.in-Ok-check_file.field-0
     (sym c.in-Ok-check_file.ensures) c.as_slice-name.result.now c.new_file-child.result c.as_slice-name.ensures
     c.new_file-child.ensures c.in-Ok-make_and_tell.told c.in-Ok-make_and_tell.ensures.tells c.in-Ok-make_and_tell.ensures.ok)
@@ -133,7 +130,7 @@ returns g c =
     (making-fails g.P.Pairs.told q row x
     (λ t found. file-goes_on c.args.cred.now c.args.a.now c.args.now c.args.lane t x found.0 found.1 found.2 c.in_default.is)
     c.args.pairs.now c.find_room.new.pairs c.make_and_tell.new.pairs c.find_room.ensures.goes c.make_and_tell.ensures.goes
-    c.in-Ok.ensures.check c.in-Ok.ensures.place c.requires.lane c.in_default.is
+    c.in-Ok.ensures.check c.in-Ok.ensures.place c.requires c.in_default.is
     (file-new c.args.cred.now c.args.now c.args.a.now.how _) c.in-Ok-check_file.field-0
     (sym c.in-Ok-check_file.ensures) c.as_slice-name.result.now c.new_file-child.result c.as_slice-name.ensures
     c.new_file-child.ensures c.in-Err-make_and_tell.fault c.in-Err-make_and_tell.ensures.fault)

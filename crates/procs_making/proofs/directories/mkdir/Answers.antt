@@ -12,17 +12,14 @@ use Rattle.procs_making.proofs.MakingRows.{row-halts, row-goes_on, making-halts,
 use Rattle.procs_making.proofs.Paths.{nothing_short}
 use Rattle.procs_making.proofs.directories.mkdir.Goals as goal
 
-pub find_room-requires-clause-live : goal.find_room-requires-clause-live
-find_room-requires-clause-live g c = c.requires.live
-
-pub find_room-requires-clause-lane : goal.find_room-requires-clause-lane
-find_room-requires-clause-lane g c = c.requires.lane
+pub find_room-requires : goal.find_room-requires
+find_room-requires g c = c.requires.lane
 
 pub returns-in-Err : goal.returns-in-Err
 returns-in-Err g c =
     let q = directory-wanted c.args.cred.now c.args.a.now c.args.now c.args.lane in
     let row : Tree → Row = λ t. mkdir t c.args.cred.now c.args.a.now c.args.now c.args.lane in
-    let is = directory-row c.args.cred.now c.args.a.now c.args.now c.args.lane c.requires.live in
+    let is = directory-row c.args.cred.now c.args.a.now c.args.now c.args.lane c.requires.outside in
     making-halts g.P.Pairs.told q row (row-halts q row is) c.args.pairs.now c.find_room.new.pairs c.find_room.ensures.goes
     c.in-Err.halt c.in-Err.ensures.check
 
@@ -30,7 +27,7 @@ pub returns-in-Err-check_directory : goal.returns-in-Err-check_directory
 returns-in-Err-check_directory g c =
     let q = directory-wanted c.args.cred.now c.args.a.now c.args.now c.args.lane in
     let row : Tree → Row = λ t. mkdir t c.args.cred.now c.args.a.now c.args.now c.args.lane in
-    let is = directory-row c.args.cred.now c.args.a.now c.args.now c.args.lane c.requires.live in
+    let is = directory-row c.args.cred.now c.args.a.now c.args.now c.args.lane c.requires.outside in
     making-refuses g.P.Pairs.told q row c.in-Ok.room (λ t found. row-goes_on q row is t found.0 found.1)
     c.args.pairs.now c.find_room.new.pairs c.find_room.ensures.goes c.in-Ok.ensures.check c.in-Err-check_directory.status
     (sym c.in-Err-check_directory.ensures)
@@ -54,7 +51,7 @@ pub returns-in-Ok-make_and_tell : goal.returns-in-Ok-make_and_tell
 returns-in-Ok-make_and_tell g c =
     let q = directory-wanted c.args.cred.now c.args.a.now c.args.now c.args.lane in
     let row : Tree → Row = λ t. mkdir t c.args.cred.now c.args.a.now c.args.now c.args.lane in
-    let is = directory-row c.args.cred.now c.args.a.now c.args.now c.args.lane c.requires.live in
+    let is = directory-row c.args.cred.now c.args.a.now c.args.now c.args.lane c.requires.outside in
     let u = c.in-Ok-check_directory.field-0 in
     making-done g.P.Pairs.told q row c.in-Ok.room (λ t found. row-goes_on q row is t found.0 found.1)
     c.args.pairs.now c.find_room.new.pairs c.make_and_tell.new.pairs c.find_room.ensures.goes c.make_and_tell.ensures.goes
@@ -68,7 +65,7 @@ pub returns : goal.returns
 returns g c =
     let q = directory-wanted c.args.cred.now c.args.a.now c.args.now c.args.lane in
     let row : Tree → Row = λ t. mkdir t c.args.cred.now c.args.a.now c.args.now c.args.lane in
-    let is = directory-row c.args.cred.now c.args.a.now c.args.now c.args.lane c.requires.live in
+    let is = directory-row c.args.cred.now c.args.a.now c.args.now c.args.lane c.requires.outside in
     let u = c.in-Ok-check_directory.field-0 in
     making-fails g.P.Pairs.told q row c.in-Ok.room (λ t found. row-goes_on q row is t found.0 found.1)
     c.args.pairs.now c.find_room.new.pairs c.make_and_tell.new.pairs c.find_room.ensures.goes c.make_and_tell.ensures.goes

@@ -12,11 +12,8 @@ use Rattle.procs_making.proofs.MakingRows.{row-halts, row-goes_on, making-halts,
 use Rattle.procs_making.proofs.MakingRows.{making-fails}
 use Rattle.procs_making.proofs.links.symlink.Goals as goal
 
-pub find_room-requires-clause-live : goal.find_room-requires-clause-live
-find_room-requires-clause-live g c = c.requires.live
-
-pub find_room-requires-clause-lane : goal.find_room-requires-clause-lane
-find_room-requires-clause-lane g c = c.requires.lane
+pub find_room-requires : goal.find_room-requires
+find_room-requires g c = c.requires
 
 pub returns-in-Err : goal.returns-in-Err
 returns-in-Err g c =
@@ -63,7 +60,7 @@ returns-in-Ok-make_and_tell g c =
     let u = c.in-Ok-check_link.field-0 in
     making-done g.P.Pairs.told q row c.in-Ok.room (λ t found. row-goes_on q row is t found.0 found.1)
     c.args.pairs.now c.find_room.new.pairs c.make_and_tell.new.pairs c.find_room.ensures.goes c.make_and_tell.ensures.goes
-    c.in-Ok.ensures.check c.in-Ok.ensures.place c.requires.lane
+    c.in-Ok.ensures.check c.in-Ok.ensures.place c.requires
     (link-free c.args.cred.now c.args.a.now c.args.now c.args.lane c.in-Ok.room u (sym c.in-Ok-check_link.ensures.check))
     (link-new c.args.cred.now c.args.a.now c.args.now c.args.lane c.in-Ok.room) u (sym c.in-Ok-check_link.ensures.check)
     c.as_slice-name.result.now c.in-Ok-new_link.child c.as_slice-name.ensures c.in-Ok-new_link.ensures.ok
@@ -77,7 +74,7 @@ returns g c =
     let u = c.in-Ok-check_link.field-0 in
     making-fails g.P.Pairs.told q row c.in-Ok.room (λ t found. row-goes_on q row is t found.0 found.1)
     c.args.pairs.now c.find_room.new.pairs c.make_and_tell.new.pairs c.find_room.ensures.goes c.make_and_tell.ensures.goes
-    c.in-Ok.ensures.check c.in-Ok.ensures.place c.requires.lane
+    c.in-Ok.ensures.check c.in-Ok.ensures.place c.requires
     (link-free c.args.cred.now c.args.a.now c.args.now c.args.lane c.in-Ok.room u (sym c.in-Ok-check_link.ensures.check))
     (link-new c.args.cred.now c.args.a.now c.args.now c.args.lane c.in-Ok.room) u (sym c.in-Ok-check_link.ensures.check)
     c.as_slice-name.result.now c.in-Ok-new_link.child c.as_slice-name.ensures c.in-Ok-new_link.ensures.ok

@@ -11,7 +11,7 @@ use Rattle.fs_shows.specs.Nodes.{name_row}
 use Rattle.fs_shows.specs.Views.{IsKept}
 use Rattle.fs_shows.proofs.Doing.{goes-then}
 use Rattle.inode_ops.specs.Giving.{HasLane}
-use Rattle.procs_object.specs.Finding.{IsOfLive, IsObject, IsPlaceFor}
+use Rattle.procs_object.specs.Finding.{IsObject, IsPlaceFor}
 use Rattle.procs_object.proofs.Gathering.{gathers, gathers-up}
 use Rattle.procs_object.proofs.Reading.{reads-more}
 use Rattle.procs_object.proofs.Told.{object-place, object-inode}
@@ -19,9 +19,6 @@ use Rattle.procs_making.specs.Rooms.{IsRoom, room_found}
 use Rattle.procs_making.proofs.Gathered.{halted}
 use Rattle.procs_making.proofs.RoomFound.{DirectoryOn, room-none, room-named, room-there, lane-there}
 use Rattle.procs_making.proofs.room.find_room.Goals as goal
-
-pub find_directory-requires : goal.find_directory-requires
-find_directory-requires g c = subst IsOfLive (sym c.as_slice.ensures) c.requires.live
 
 pub returns-in-Err-clause-goes : goal.returns-in-Err-clause-goes
 returns-in-Err-clause-goes g c = c.find_directory.ensures.goes
@@ -94,7 +91,7 @@ returns-in-Ok-peek-clause-check g c =
     c.peek.ensures.goes
     (gathers g.P.Pairs.told c.args.pairs.now c.find_directory.new.pairs c.look_up.new.pairs Q (IsKept Live) c.look_up.ensures.goes
     c.in-Ok.ensures.check (λ t sound found. tt) R c.in-Ok-look_up.ensures.ok)
-    (λ t sound found. lane-there t c.args.lane c.requires.lane sound) N c.in-Ok-peek.ensures.ok)
+    (λ t sound found. lane-there t c.args.lane c.requires sound) N c.in-Ok-peek.ensures.ok)
 
 pub returns-in-Ok-peek-clause-place : goal.returns-in-Ok-peek-clause-place
 returns-in-Ok-peek-clause-place g c =
@@ -116,6 +113,6 @@ returns-in-Err-peek-clause-check g c =
     c.peek.ensures.goes
     (gathers g.P.Pairs.told c.args.pairs.now c.find_directory.new.pairs c.look_up.new.pairs Q (IsKept Live) c.look_up.ensures.goes
     c.in-Ok.ensures.check (λ t sound found. tt) R c.in-Ok-look_up.ensures.ok)
-    (λ t sound found. lane-there t c.args.lane c.requires.lane sound) 0
+    (λ t sound found. lane-there t c.args.lane c.requires sound) 0
     (goes-then g.P.Pairs.told c.args.pairs.now c.find_directory.new.pairs c.look_up.new.pairs 0 0 c.find_directory.ensures.goes
     c.look_up.ensures.goes) c.in-Err-peek.fault c.in-Err-peek.ensures.fault

@@ -1,6 +1,6 @@
 -- The handle says where it is called.
 use Rattle.std.proofs.Common.{◌∙◌, ap, sym}
-use Rattle.procs_names.specs.Naming.{says_snapshots}
+use Rattle.procs_object.specs.Finding.{says_snapshots}
 use Rattle.procs_names.proofs.dropping.rmdir.Goals as goal
 
 pub drop_named-requires : goal.drop_named-requires
