@@ -1,7 +1,9 @@
 -- How calls end.
 use Rattle.std.proofs.Common.{◌≡◌, ℕ, ◌≤◌, List, Bool, true, false, Result, Ok, Err, refl, sym, ◌∙◌, ap, subst}
-use Rattle.std.proofs.Common.{arith}
-use Rattle.std.specs.Prelude.{if◌then◌else◌}
+use Rattle.std.proofs.Common.{inl, inr, arith}
+use Rattle.std.specs.Prelude.{IfOk, IfErr, if◌then◌else◌}
+use Rattle.nfs3_fits.specs.Shape.{HasShape}
+use Rattle.fs_laws.proofs.Shaped.{answer_fits}
 use Rattle.nfs3_types.specs.Calls.{Call, procedure_of}
 use Rattle.nfs3_types.specs.declared.body.Body.{Body}
 use Rattle.nfs3_types.specs.declared.body.Body.TheVariants.{Null as NullBody}
@@ -21,9 +23,9 @@ use Rattle.procs_bytes.specs.declared.stop.Stop.TheVariants.{Halted, SweepFirst}
 use Rattle.procs_bytes.specs.Waiting.{PerformsOrWaits}
 use Rattle.nfs3_types.specs.declared.reply.Reply.{Reply}
 use Rattle.nfs3_procs.specs.declared.fault.BodyFault.{BodyFault}
-use Rattle.nfs3_procs.specs.declared.fault.BodyFault.TheVariants.{NotBuilt}
-use Rattle.nfs3_procs.specs.Built.{IsBuilt}
-use Rattle.nfs3_procs.specs.Answering.{Answers, most_puts, replied, stopped}
+use Rattle.nfs3_procs.specs.declared.fault.BodyFault.TheVariants.{Pair}
+use Rattle.nfs3_procs.specs.Answering.{Answers, EndsAs, most_puts, replied, stopped}
+use Rattle.nfs3_procs.specs.Shaping.{IsHandedOn, IsMisshapen}
 
 at-least : (m n : ℕ) → 1 ≤ m → m ≤ n → 1 ≤ n
 at-least m n some more = omega (arith, some, more)
@@ -80,39 +82,36 @@ module _ {S W : Type 0} (told : PairsTold S W) where
   }
 
   -- the reply is built from what the procedure gave
-  pub answers : (old new : S) (asked : Asked) (r : Result Body Stop) → IsBuilt asked.call
+  ends-by : (old new : S) (asked : Asked) (r : Result Body Stop)
       → PerformsOrWaits told old new (most_puts asked.call) (λ t. row t asked) r
-      → Answers told old new asked (replied (procedure_of asked.call) r)
-  answers old new asked (Ok body) built p = record {
-    goes = p.goes;
-    refused = λ not. absurd (not built);
-    ends = λ w t agrees lies sound.
-        let a = p.ends w t agrees lies sound in
-        record {
-          is = ap (reply_by (procedure_of asked.call)) (sym a.is);
-          lies = subst (λ (r : Row). Lies told new w (tree_by t r)) (sym a.is) a.lies;
-        };
-  }
-  answers old new asked (Err (Halted (Refused status))) built p = record {
-    goes = p.goes;
-    refused = λ not. absurd (not built);
-    ends = λ w t agrees lies sound.
-        let a = p.ends w t agrees lies sound in
-        record {
-          is = ap (reply_by (procedure_of asked.call)) (sym a.is);
-          lies = subst (λ (r : Row). Lies told new w (tree_by t r)) (sym a.is) a.lies;
-        };
-  }
-  answers old new asked (Err (Halted (Fault fault))) built p = record {
-    goes = p.goes;
-    ends = p.ends;
-    refused = λ not. absurd (not built);
-  }
-  answers old new asked (Err (SweepFirst id)) built p = record {
-    goes = p.goes;
-    ends = p.ends;
-    refused = λ not. absurd (not built);
-  }
+      → EndsAs told old new asked (replied (procedure_of asked.call) r)
+  ends-by old new asked (Ok body) p = λ w t agrees lies sound.
+      let a = p.ends w t agrees lies sound in
+      record {
+        is = ap (reply_by (procedure_of asked.call)) (sym a.is);
+        lies = subst (λ (r : Row). Lies told new w (tree_by t r)) (sym a.is) a.lies;
+      }
+  ends-by old new asked (Err (Halted (Refused status))) p = λ w t agrees lies sound.
+      let a = p.ends w t agrees lies sound in
+      record {
+        is = ap (reply_by (procedure_of asked.call)) (sym a.is);
+        lies = subst (λ (r : Row). Lies told new w (tree_by t r)) (sym a.is) a.lies;
+      }
+  ends-by old new asked (Err (Halted (Fault fault))) p = p.ends
+  ends-by old new asked (Err (SweepFirst id)) p = p.ends
+
+  -- a reply that has not its shape is that of no sound tree
+  ends-misshapen : (old new : S) (asked : Asked) (given : Result Reply BodyFault) → IsMisshapen given
+      → EndsAs told old new asked given → EndsAs told old new asked (Err (Pair Odd))
+  ends-misshapen old new asked (Ok reply) not ends = λ w t agrees lies sound.
+      not (subst HasShape (sym (ends w t agrees lies sound).is) (answer_fits t asked sound.bounds))
+  ends-misshapen old new asked (Err fault) not ends = absurd not
+
+  ends-handed : (old new : S) (asked : Asked) (given : Result Reply BodyFault) (fault : BodyFault) → IsHandedOn given fault
+      → EndsAs told old new asked given → EndsAs told old new asked (Err fault)
+  ends-handed old new asked given fault (inl same) ends = subst (EndsAs told old new asked) same ends
+  ends-handed old new asked given fault (inr (is, not)) ends =
+      subst (λ (f : BodyFault). EndsAs told old new asked (Err f)) (sym is) (ends-misshapen old new asked given not ends)
 
   -- of a handle, by a copy of it that is lent
   pub by-handle : (old new : S) (row : List ℕ → Tree → Row) (r : Result Body Halt) (lent own : List ℕ) → lent ≡ own
@@ -132,19 +131,28 @@ module _ {S W : Type 0} (told : PairsTold S W) where
       subst (λ (m : ℕ). PerformsOrWaits told old new m row r) (sym (ap (λ (b : Bool). if b then 9 else 0) is))
       (ends-so old new 0 0 row given r (omega arith) so p)
 
-  -- nothing was read of a call that is not built
-  pub leaves : (s : S) (asked : Asked) → (IsBuilt asked.call → ⊥) → Answers told s s asked (Err NotBuilt)
-  leaves s asked not = record {
-    goes = goes-most told s s 0 (most_puts asked.call) (omega arith) (goes-none told s);
-    ends = (not, refl);
-    refused = λ still. refl;
-  }
+  -- what was given, checked
+  ends-checked : (old new : S) (asked : Asked) (given result : Result Reply BodyFault)
+      → IfOk result (λ reply. (given ≡ Ok reply) × HasShape reply) → IfErr result (IsHandedOn given)
+      → EndsAs told old new asked given → EndsAs told old new asked result
+  ends-checked old new asked given (Ok reply) ok fault ends = subst (EndsAs told old new asked) ok.0 ends
+  ends-checked old new asked given (Err f) ok fault ends = ends-handed old new asked given f fault ends
 
-  -- the reply, as it was built
-  pub answers-so : (old new : S) (asked : Asked) (procedure : ℕ) (r : Result Body Stop) (result : Result Reply BodyFault)
-      → IsBuilt asked.call → procedure ≡ procedure_of asked.call → result ≡ replied procedure r
+  shaped-by : (given result : Result Reply BodyFault) → IfOk result (λ reply. (given ≡ Ok reply) × HasShape reply)
+      → IfOk result HasShape
+  shaped-by given (Ok reply) ok = ok.1
+  shaped-by given (Err f) ok = tt
+
+  -- the reply, as it was built and checked
+  pub answers-so : (old new : S) (asked : Asked) (procedure : ℕ) (r : Result Body Stop) (given result : Result Reply BodyFault)
+      → procedure ≡ procedure_of asked.call → given ≡ replied procedure r
+      → IfOk result (λ reply. (given ≡ Ok reply) × HasShape reply) → IfErr result (IsHandedOn given)
       → PerformsOrWaits told old new (most_puts asked.call)
       (λ t. row_of t asked.cred asked.now asked.lane asked.call) r → Answers told old new asked result
   unfolding row
-  answers-so old new asked procedure r result built number is p =
-      subst (Answers told old new asked) (sym (is ∙ ap (λ (n : ℕ). replied n r) number)) (answers old new asked r built p)
+  answers-so old new asked procedure r given result number is ok fault p = record {
+    goes = p.goes;
+    ends = ends-checked old new asked given result ok fault
+        (subst (EndsAs told old new asked) (sym (is ∙ ap (λ (n : ℕ). replied n r) number)) (ends-by old new asked r p));
+    shaped = shaped-by given result ok;
+  }

@@ -1,5 +1,6 @@
 -- What is answered to a call, as a transaction over records.
-use Rattle.std.specs.Prelude.{ℕ, ◌≡◌, Result, Ok, Err, if◌then◌else◌}
+use Rattle.std.specs.Prelude.{ℕ, ◌≡◌, Result, Ok, Err, IfOk, if◌then◌else◌}
+use Rattle.nfs3_fits.specs.Shape.{HasShape}
 use Rattle.nfs3_types.specs.Calls.{Call}
 use Rattle.nfs3_types.specs.declared.body.Body.{Body}
 use Rattle.nfs3_types.specs.declared.body.Body.TheVariants.{Nothing}
@@ -16,8 +17,7 @@ use Rattle.procs_bytes.specs.declared.stop.Stop.{Stop}
 use Rattle.procs_bytes.specs.declared.stop.Stop.TheVariants.{Halted, SweepFirst as Waits}
 use Rattle.procs_bytes.specs.Waiting.{IsHeldUp}
 use Rattle.nfs3_procs.specs.declared.fault.BodyFault.{BodyFault}
-use Rattle.nfs3_procs.specs.declared.fault.BodyFault.TheVariants.{Pair, SweepFirst, NotBuilt}
-use Rattle.nfs3_procs.specs.Built.{IsBuilt}
+use Rattle.nfs3_procs.specs.declared.fault.BodyFault.TheVariants.{Pair, SweepFirst}
 
 -- how often a call may put: one that looks at the tree alone does not
 abbrev pub most_puts : Call → ℕ
@@ -41,16 +41,14 @@ module _ {S W : Type 0} (told : PairsTold S W) (old new : S) where
     pub is : reply ≡ answer t asked
     pub lies : Lies told new w (after t asked)
 
-  -- How a call ends: it is answered; or it is not built, and nothing was read; or its file waits for a sweep; or the transaction
-  -- is to be given up.
+  -- How a call ends: it is answered; or its file waits for a sweep; or the transaction is to be given up.
   abbrev pub EndsAs : Asked → Result Reply BodyFault → Type 0
   EndsAs asked (Ok reply) = OnTrees told old new (IsReplied asked reply)
-  EndsAs asked (Err NotBuilt) = (IsBuilt asked.call → ⊥) × (new ≡ old)
   EndsAs asked (Err (SweepFirst id)) = OnTrees told old new (λ w t. IsHeldUp told old new w t (row t asked) id)
   EndsAs asked (Err (Pair fault)) = StopsFor told old new (most_puts asked.call) (λ t. row t asked) fault
 
   pub record Answers (asked : Asked) (result : Result Reply BodyFault) : Type 0 where
     pub goes : Goes told old new (most_puts asked.call)
     pub ends : EndsAs asked result
-    -- a call that is not built is told so
-    pub refused : (IsBuilt asked.call → ⊥) → result ≡ Err NotBuilt
+    -- whatever was read, a reply has the shape that its spelling needs
+    pub shaped : IfOk result HasShape

@@ -1,2 +1,2 @@
-pub mod Built
 pub mod Answering
+pub mod Shaping

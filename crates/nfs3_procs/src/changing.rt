@@ -5,14 +5,14 @@ ghost use Rattle.fs_rules.specs.Answers as table;
 ghost use Rattle.fs_rules.specs.Answers.{row_of};
 ghost use Rattle.procs_bytes.specs.Waiting.{PerformsOrWaits};
 ghost use Rattle.nfs3_procs.specs.Answering as answering;
-ghost use Rattle.nfs3_procs.specs.Built.{IsBuilt};
 
 use fs_shows::Halt;
 use nfs3_types::{Body, CallOver, Cred, Moment, OwnCall};
 use pairs::Blocks;
 use procs_bytes::{Stop, set_attr, write};
 use procs_create::create;
-use procs_making::{mkdir, symlink};
+use procs_making::symlink;
+use procs_mkdir::mkdir;
 use procs_names::{link, remove, rmdir};
 use procs_rename::rename;
 use std::alloc::Global;
@@ -56,7 +56,6 @@ pub fn change<P: Blocks>(
 ) -> Result<Body, Stop>
     requires lane { lane < 16 }
     requires changes { table.is_changing call.now ≡ true }
-    requires built { IsBuilt call.now }
     ensures { PerformsOrWaits P.told pairs.old pairs.new 9 (λ t. row_of t cred.now now lane call.now) result }
 {
     match call {

@@ -12,7 +12,4 @@ pub enum BodyFault {
     /// A sweep of the stale extents of this file has to come first.
     #[error("a sweep of file {0} has to come first")]
     SweepFirst(u64),
-    /// The call is none of those that are built.
-    #[error("the call is not built")]
-    NotBuilt,
 }

@@ -3,7 +3,6 @@
 ghost use Rattle.std.specs.Prelude.{◌≡◌, false};
 ghost use Rattle.fs_rules.specs.Answers.{is_changing, row_of};
 ghost use Rattle.procs_object.specs.Performing.{Performs};
-ghost use Rattle.nfs3_procs.specs.Built.{IsBuilt};
 
 use fs_shows::Halt;
 use nfs3_types::{Body, CallOver, Cred, Moment, OwnCall, Status};
@@ -23,8 +22,7 @@ pub fn look<P: Blocks>(
     now: Moment,
     lane: u8,
 ) -> Result<Body, Halt>
-    requires looks { is_changing call.now ≡ false }
-    requires built { IsBuilt call.now }
+    requires { is_changing call.now ≡ false }
     ensures { Performs P.told pairs.old pairs.new 0 (λ t. row_of t cred.now now lane call.now) result }
 {
     match call {

@@ -1,23 +1,17 @@
 -- A call can change the tree, or it can not.
-use Rattle.std.proofs.Common.{sym, ◌∙◌, arith}
+use Rattle.std.proofs.Common.{sym, ◌∙◌}
 use Rattle.fs_rules.specs.Answers.{row_of}
 use Rattle.nfs3_procs.proofs.Ended.{changes, looks}
 use Rattle.nfs3_procs.proofs.answering.act.Goals as goal
 
 pub change-requires-clause-lane : goal.change-requires-clause-lane
-change-requires-clause-lane g c = omega (arith, c.requires.lane)
+change-requires-clause-lane g c = c.requires
 
 pub change-requires-clause-changes : goal.change-requires-clause-changes
 change-requires-clause-changes g c = sym c.is_changing.ensures ∙ c.if-is_changing.true
 
-pub change-requires-clause-built : goal.change-requires-clause-built
-change-requires-clause-built g c = c.requires.built
-
-pub look-requires-clause-looks : goal.look-requires-clause-looks
-look-requires-clause-looks g c = sym c.is_changing.ensures ∙ c.if-is_changing.false
-
-pub look-requires-clause-built : goal.look-requires-clause-built
-look-requires-clause-built g c = c.requires.built
+pub look-requires : goal.look-requires
+look-requires g c = sym c.is_changing.ensures ∙ c.if-is_changing.false
 
 pub returns-then-is_changing : goal.returns-then-is_changing
 returns-then-is_changing g c =
