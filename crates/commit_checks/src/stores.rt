@@ -13,7 +13,7 @@ use std::alloc::Global;
 pub struct Anything;
 
 impl Meaning for Anything {
-    type State = ();
+    ghost State = { ⊤ };
 
     ghost stands = { λ _ _ _. ⊤ };
 

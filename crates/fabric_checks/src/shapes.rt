@@ -14,7 +14,7 @@ use std::alloc::Global;
 struct Anything;
 
 impl Meaning for Anything {
-    type State = ();
+    ghost State = { ⊤ };
 
     ghost stands = { λ _ _ _. ⊤ };
 

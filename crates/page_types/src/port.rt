@@ -13,13 +13,13 @@ use pair_types::StepFault;
 /// What maps of pages stand for.
 pub trait Meaning {
     /// What a map of pages stands for.
-    type State;
+    ghost State: { Type 0 };
 
     /// Over stores that began so, a map of pages stands for a state.
-    ghost stands: { Origin → PageMap → Self.State → Type 0 };
+    ghost stands: { Origin → PageMap → State → Type 0 };
 
     /// From a state, with this root page, an entry leads to the next state.
-    ghost next: { Self.State → List ℕ → Entry → Self.State → Type 0 };
+    ghost next: { State → List ℕ → Entry → State → Type 0 };
 }
 
 /// A pass's way to the stores.

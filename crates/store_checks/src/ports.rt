@@ -10,7 +10,7 @@ use std::test::*;
 struct Any;
 
 impl Meaning for Any {
-    type State = ();
+    ghost State = { ⊤ };
 
     ghost stands = { λ _ _ _. ⊤ };
 
