@@ -1,0 +1,11 @@
+pub mod Carrying
+pub mod Remaining
+pub mod Clearing
+pub mod Purging
+pub mod Staling
+pub mod Ordered
+pub mod Nexts
+pub mod Walking
+pub mod Stepping
+pub mod Numbered
+pub mod Ends
