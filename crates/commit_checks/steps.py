@@ -334,7 +334,7 @@ def script():
     s.say("lose 60 100", "agree: done faults-old faults-new")
 
     # 100 transactions on new stores, so many times
-    for number in range(1, 5):
+    for number in range(1, 41):
         s.crowd(number, 25, 25)
     return s.lines
 
